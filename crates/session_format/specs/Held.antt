@@ -1,0 +1,47 @@
+-- What the reader's values say by the definitions of reading. Assumes nothing.
+use mathlib.Core.Path.{_≡_}
+use mathlib.Core.List.{List, [], _∷_}
+use Prim.Native.Nat.{ℕ, _<_}
+use lib.Dec.{eqb}
+use lib.ListN.{length}
+use denote.Ref.{RefT}
+use Rattle.std.specs.declared.option.Option.{Option}
+use Rattle.std.specs.declared.option.Option.the-variants.{Some, None}
+use Rattle.std.specs.declared.result.Result.{Result}
+use Rattle.std.specs.declared.result.Result.the-variants.{Ok, Err}
+use Rattle.session_format.specs.Reading.{calls-in, well-formed}
+use Rattle.session_format.specs.declared.encoding.Call.{Call}
+use Rattle.session_format.specs.declared.refusals.FormatRefusal.{FormatRefusal}
+use Rattle.session_format.specs.declared.reader.Calls.{Calls}
+
+-- the calls that are still to come
+abbrev pub calls : Calls → List Call
+calls s = calls-in (s .bytes .now)
+
+-- the reader's answer, with the list of calls in place of the view of the bytes
+abbrev pub answer : Result Calls FormatRefusal → Result (List Call) FormatRefusal
+answer (Ok s) = Ok (calls s)
+answer (Err e) = Err e
+
+abbrev pub first : List Call → Option Call
+first [] = None
+first (c ∷ cs) = Some c
+
+abbrev pub others : List Call → List Call
+others [] = []
+others (c ∷ cs) = cs
+
+-- the bytes begin with this call, and those after it follow
+pub record Begins (bytes : List ℕ) (call : Call) (rest : List ℕ) : Type 0 where
+  pub calls : calls-in bytes ≡ call ∷ calls-in rest
+  pub formed : well-formed bytes ≡ well-formed rest
+  pub shorter : length rest < length bytes
+
+-- the bytes begin with no call
+pub record Begins-none (bytes : List ℕ) : Type 0 where
+  pub calls : calls-in bytes ≡ []
+  pub formed : well-formed bytes ≡ eqb (length bytes) 0
+
+abbrev pub Splits : List ℕ → Option (Call × RefT (List ℕ)) → Type 0
+Splits bytes None = Begins-none bytes
+Splits bytes (Some p) = Begins bytes (p .0) (p .1 .now)

@@ -1,0 +1,4 @@
+pub mod Refusals
+pub mod Encoding
+pub mod Reading
+pub mod Held

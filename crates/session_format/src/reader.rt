@@ -1,0 +1,90 @@
+// Reads a session: the caller's bytes as calls, or the refusal.
+ghost use mathlib.Core.Path.{_≡_};
+ghost use Prim.Native.Nat.{_+_, _*_, _-_};
+ghost use lib.ListN.{length};
+ghost use Rattle.session_format.specs.Reading.{session-of, counted, well-formed};
+ghost use Rattle.session_format.specs.Held.{calls, answer, first, others, Splits};
+use crate::encoding::Call;
+use crate::refusals::FormatRefusal;
+
+// The most calls that a session holds.
+const MOST_CALLS: u16 = 4096;
+
+// The calls of a session that are still to come, in order.
+#[derive(Clone, Copy)]
+pub struct Calls<'a> {
+    bytes: &'a [u8],
+}
+
+pub fn read_session(bytes: &[u8]) -> Result<Calls<'_>, FormatRefusal>
+    ensures { λ r. ⌜ answer r ≡ session-of (now (bytes .entry)) ⌝ }
+{
+    let [low, high, calls @ ..] = bytes else {
+        return Err(FormatRefusal::EndsInsideCount);
+    };
+    read_calls(count_of(*low, *high), calls)
+}
+
+fn count_of(low: u8, high: u8) -> u16
+    ensures { λ r. ⌜ r ≡ low + 256 * high ⌝ }
+{
+    u16::from_le_bytes([low, high])
+}
+
+fn read_calls(count: u16, bytes: &[u8]) -> Result<Calls<'_>, FormatRefusal>
+    ensures { λ r. ⌜ answer r ≡ counted count (now (bytes .entry)) ⌝ }
+{
+    if count > MOST_CALLS {
+        return Err(FormatRefusal::TooManyCalls);
+    }
+    let length = 3 * count as usize;
+    if bytes.len() < length {
+        return Err(FormatRefusal::EndsInsideCall);
+    }
+    if bytes.len() > length {
+        return Err(FormatRefusal::BytesLeftOver);
+    }
+    if !all_well_formed(bytes) {
+        return Err(FormatRefusal::MalformedCall);
+    }
+    Ok(Calls { bytes })
+}
+
+fn all_well_formed(bytes: &[u8]) -> bool
+    ensures { λ r. ⌜ r ≡ well-formed (now (bytes .entry)) ⌝ }
+{
+    let mut left = bytes;
+    while let Some((_, rest)) = split_first(left) {
+        left = rest;
+    }
+    left.is_empty()
+}
+
+// The call that the bytes begin with, and the bytes after it; none where they end or the call is malformed.
+fn split_first(bytes: &[u8]) -> Option<(Call, &[u8])>
+    ensures { λ r. ⌜ Splits (now (bytes .entry)) r ⌝ }
+{
+    let [letter, first, second, rest @ ..] = bytes else {
+        return None;
+    };
+    match Call::decode(*letter, *first, *second) {
+        Ok(call) => Some((call, rest)),
+        Err(_) => None,
+    }
+}
+
+pub impl Iterator for Calls<'_> as CallsIterator {
+    type Item = Call;
+
+    ghost steps = { λ s r t. (r ≡ first (calls s)) × (calls t ≡ others (calls s)) };
+
+    ghost ends = { λ _. Unit {0} };
+
+    ghost left = { λ s. length (calls s) };
+
+    fn next(&mut self) -> Option<Call> {
+        let (call, rest) = split_first(self.bytes)?;
+        self.bytes = rest;
+        Some(call)
+    }
+}
