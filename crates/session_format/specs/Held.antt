@@ -3,7 +3,7 @@ use mathlib.Core.Path.{_≡_}
 use mathlib.Core.List.{List, [], _∷_}
 use Prim.Native.Nat.{ℕ, _<_}
 use lib.Dec.{eqb}
-use lib.ListN.{length}
+use lib.ListN.{length, drop}
 use denote.Ref.{RefT}
 use Rattle.std.specs.declared.option.Option.{Option}
 use Rattle.std.specs.declared.option.Option.the-variants.{Some, None}
@@ -31,10 +31,11 @@ abbrev pub others : List Call → List Call
 others [] = []
 others (c ∷ cs) = cs
 
--- the bytes begin with this call, and those after it follow
+-- the bytes begin with the three bytes of this call, and the rest follows
 pub record Begins (bytes : List ℕ) (call : Call) (rest : List ℕ) : Type 0 where
   pub calls : calls-in bytes ≡ call ∷ calls-in rest
   pub formed : well-formed bytes ≡ well-formed rest
+  pub follows : rest ≡ drop 3 bytes
   pub shorter : length rest < length bytes
 
 -- the bytes begin with no call

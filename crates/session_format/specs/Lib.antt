@@ -1,4 +1,5 @@
 pub mod Refusals
 pub mod Encoding
 pub mod Reading
+pub mod Writing
 pub mod Held

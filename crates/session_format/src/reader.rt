@@ -3,6 +3,7 @@ ghost use mathlib.Core.Path.{_≡_};
 ghost use Prim.Native.Nat.{_+_, _*_, _-_};
 ghost use lib.ListN.{length};
 ghost use Rattle.session_format.specs.Reading.{session-of, counted, well-formed};
+ghost use Rattle.session_format.specs.Writing.{Reads-what-is-written, Writes-what-was-read, Front-decides};
 ghost use Rattle.session_format.specs.Held.{calls, answer, first, others, Splits};
 use crate::encoding::Call;
 use crate::refusals::FormatRefusal;
@@ -16,8 +17,12 @@ pub struct Calls<'a> {
     bytes: &'a [u8],
 }
 
+// The calls of a session, or why the bytes are none. It calls and writes nothing.
 pub fn read_session(bytes: &[u8]) -> Result<Calls<'_>, FormatRefusal>
-    ensures { λ r. ⌜ answer r ≡ session-of (now (bytes .entry)) ⌝ }
+    ensures answer { λ r. ⌜ answer r ≡ session-of (now (bytes .entry)) ⌝ }
+    ensures written_is_read { λ _. ⌜ Reads-what-is-written ⌝ }
+    ensures read_is_written { λ _. ⌜ Writes-what-was-read (now (bytes .entry)) ⌝ }
+    ensures front_decides { λ _. ⌜ Front-decides (now (bytes .entry)) ⌝ }
 {
     let [low, high, calls @ ..] = bytes else {
         return Err(FormatRefusal::EndsInsideCount);

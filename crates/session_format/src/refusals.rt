@@ -1,4 +1,4 @@
-// Why the bytes are no session.
+// Why bytes are no session.
 ghost use mathlib.Core.Path.{_≡_};
 ghost use Rattle.session_format.specs.Refusals.{number-of};
 
@@ -13,6 +13,7 @@ pub enum FormatRefusal {
 }
 
 impl FormatRefusal {
+    // The number that the documents and the programs give the refusal.
     pub fn number(self) -> u8
         ensures { λ r. ⌜ r ≡ number-of self ⌝ }
     {

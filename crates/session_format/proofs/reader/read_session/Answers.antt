@@ -1,11 +1,26 @@
 use mathlib.Core.Path.{sym, ap, _∙_}
 use borrow.Author.Needs.{needs}
 use Rattle.session_format.specs.Reading.{counted}
-use Rattle.session_format.proofs.Shapes.{session-by-places, after}
+use Rattle.session_format.proofs.Fronts.{front-decides}
+use Rattle.session_format.proofs.RoundTrip.{reads-what-is-written, writes-what-was-read}
+use Rattle.session_format.proofs.Shapes.{session-by-places, session-short, after}
 use Rattle.session_format.proofs.reader.read_session.Needs as need
 
 pub returns : need.returns
-returns c =
+returns c = record {
+  answer =
     c .read-calls .ensures
     ∙ ap (λ n. counted n (after 2 (c .args .bytes .now))) (c .count-of .ensures)
-    ∙ sym (session-by-places (c .args .bytes .now) (search needs))
+    ∙ sym (session-by-places (c .args .bytes .now) (search needs));
+  written-is-read = reads-what-is-written;
+  read-is-written = writes-what-was-read (c .args .bytes .now) (c .typed .bytes);
+  front-decides = front-decides (c .args .bytes .now);
+}
+
+pub returns-in-rest : need.returns-in-rest
+returns-in-rest c = record {
+  answer = sym (session-short (c .args .bytes .now) (search needs));
+  written-is-read = reads-what-is-written;
+  read-is-written = writes-what-was-read (c .args .bytes .now) (c .typed .bytes);
+  front-decides = front-decides (c .args .bytes .now);
+}
