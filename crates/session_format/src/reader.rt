@@ -17,6 +17,20 @@ pub struct Calls<'a> {
     bytes: &'a [u8],
 }
 
+impl Calls<'_> {
+    // How many calls are still to come.
+    pub fn len(self) -> usize
+        ensures { λ r. ⌜ r ≡ length (calls (self .entry)) ⌝ }
+    {
+        let mut left = self;
+        let mut count = 0;
+        while left.next().is_some() {
+            count += 1;
+        }
+        count
+    }
+}
+
 // The calls of a session, or why the bytes are none. It calls and writes nothing.
 pub fn read_session(bytes: &[u8]) -> Result<Calls<'_>, FormatRefusal>
     ensures answer { λ r. ⌜ answer r ≡ session-of (now (bytes .entry)) ⌝ }
