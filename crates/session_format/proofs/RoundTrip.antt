@@ -16,13 +16,15 @@ use Rattle.std.specs.declared.result.Result.{Result}
 use Rattle.std.specs.declared.result.Result.the-variants.{Ok, Err}
 use Rattle.std.specs.shelf.Lists.{All}
 use Rattle.std.specs.Results.{isOk}
+use Rattle.std.specs.Vec.{made}
 use Rattle.session_format.specs.Encoding.{ascii, call-of, call-bytes, well-formed-if, line-operand, bits-6-to-4, bits-3-to-0, bit-7, unused}
 use Rattle.session_format.specs.Reading.{session-of, counted, well-formed, calls-in, followed-by}
-use Rattle.session_format.proofs.Shapes.{begins-with}
-use Rattle.session_format.specs.Held.{Begins}
+use Rattle.session_format.proofs.Shapes.{begins-with, few-calls}
+use Rattle.session_format.specs.Held.{Begins, answer, calls-left}
 use Rattle.session_format.specs.Writing.{calls-bytes, session-bytes, Holds-call, Holdable, Reads-what-is-written, Writes-what-was-read, Front-decides}
 use Rattle.session_format.specs.declared.encoding.Call.{Call}
 use Rattle.session_format.specs.declared.encoding.Call.the-variants.{Write, Read, Line, Clocks, Acknowledge, Fetch, IntLine, Reset}
+use Rattle.session_format.specs.declared.reader.Calls.{Calls}
 use Rattle.session_format.specs.declared.refusals.FormatRefusal.{FormatRefusal}
 
 -- ---- what is written is read
@@ -194,7 +196,8 @@ accepted true why calls others e = (refl, cc)
 accepted false why calls others e = absurd (refused-not-ok why others e)
 
 -- what bytes that a count's reading accepts are
-pub record Accepted (count : ℕ) (bytes : List ℕ) (calls : List Call) : Type 0 where
+record Accepted (count : ℕ) (bytes : List ℕ) (calls : List Call) : Type 0 where
+  few : count ≤ 4096
   long : length bytes ≡ 3 * count
   formed : well-formed bytes ≡ true
   read : calls-in bytes ≡ calls
@@ -206,6 +209,7 @@ accepted-counted count bytes calls e =
     let all : (ltb (3 * count) (length bytes) ≡ false) × (_ ≡ Ok calls) = passed _ _ _ calls (enough .1) in
     let ok : (well-formed bytes ≡ true) × (calls-in bytes ≡ calls) = accepted _ _ _ calls (all .1) in
     record {
+      few = ltb-false _ _ (few .0);
       long = omega (arith, ltb-false _ _ (enough .0), ltb-false _ _ (all .0));
       formed = ok .0;
       read = ok .1;
@@ -224,3 +228,15 @@ written-session (low ∷ high ∷ bytes) small calls e =
 
 pub writes-what-was-read : (bytes : List ℕ) → ((i : ℕ) → Fits w8 (getD bytes i 0)) → Writes-what-was-read bytes
 writes-what-was-read bytes typed = written-session bytes (all-from-getD (λ b. b < 256) bytes 0 (λ i h. typed i .fits))
+
+few-read : (bytes : List ℕ) (calls : List Call) → session-of bytes ≡ Ok calls → length calls ≤ 4096
+few-read [] calls e = absurd (refused-not-ok _ calls e)
+few-read (low ∷ []) calls e = absurd (refused-not-ok _ calls e)
+few-read (low ∷ high ∷ bytes) calls e =
+    let a : Accepted (low + 256 * high) bytes calls = accepted-counted (low + 256 * high) bytes calls e in
+    omega (arith, few-calls bytes, ap length (a .read))
+
+pub few-answered : (r : Result Calls FormatRefusal) (bytes : List ℕ) → answer r ≡ session-of bytes
+    → made r (λ view. length (calls-left view) ≤ 4096)
+few-answered (Ok view) bytes e = few-read bytes (calls-left view) (sym e)
+few-answered (Err why) bytes e = tt

@@ -15,21 +15,22 @@ use Rattle.session_format.specs.declared.refusals.FormatRefusal.{FormatRefusal
 use Rattle.session_format.specs.declared.reader.Calls.{Calls}
 
 -- the calls that are still to come
-abbrev pub calls : Calls → List Call
-calls s = calls-in (s .bytes .now)
+abbrev pub calls-left : Calls → List Call
+calls-left view = calls-in (view .bytes .now)
 
 -- the reader's answer, with the list of calls in place of the view of the bytes
 abbrev pub answer : Result Calls FormatRefusal → Result (List Call) FormatRefusal
-answer (Ok s) = Ok (calls s)
+answer (Ok view) = Ok (calls-left view)
 answer (Err e) = Err e
 
-abbrev pub first : List Call → Option Call
-first [] = None
-first (c ∷ cs) = Some c
+-- the first of a list of calls, and the list after it
+abbrev pub next-call : List Call → Option Call
+next-call [] = None
+next-call (call ∷ calls) = Some call
 
-abbrev pub others : List Call → List Call
-others [] = []
-others (c ∷ cs) = cs
+abbrev pub later-calls : List Call → List Call
+later-calls [] = []
+later-calls (call ∷ calls) = calls
 
 -- the bytes begin with the three bytes of this call, and the rest follows
 pub record Begins (bytes : List ℕ) (call : Call) (rest : List ℕ) : Type 0 where

@@ -1,10 +1,11 @@
 // Reads a session: the caller's bytes as calls, or the refusal.
 ghost use mathlib.Core.Path.{_≡_};
-ghost use Prim.Native.Nat.{_+_, _*_, _-_};
+ghost use Prim.Native.Nat.{_+_, _*_, _≤_};
 ghost use lib.ListN.{length};
+ghost use Rattle.std.specs.Vec.{made};
 ghost use Rattle.session_format.specs.Reading.{session-of, counted, well-formed};
 ghost use Rattle.session_format.specs.Writing.{Reads-what-is-written, Writes-what-was-read, Front-decides};
-ghost use Rattle.session_format.specs.Held.{calls, answer, first, others, Splits};
+ghost use Rattle.session_format.specs.Held.{calls-left, answer, next-call, later-calls, Splits};
 use crate::encoding::Call;
 use crate::refusals::FormatRefusal;
 
@@ -20,7 +21,7 @@ pub struct Calls<'a> {
 impl Calls<'_> {
     // How many calls are still to come.
     pub fn len(self) -> usize
-        ensures { λ r. ⌜ r ≡ length (calls (self .entry)) ⌝ }
+        ensures { λ r. ⌜ r ≡ length (calls-left (self .entry)) ⌝ }
     {
         let mut left = self;
         let mut count = 0;
@@ -34,6 +35,7 @@ impl Calls<'_> {
 // The calls of a session, or why the bytes are none. It calls and writes nothing.
 pub fn read_session(bytes: &[u8]) -> Result<Calls<'_>, FormatRefusal>
     ensures answer { λ r. ⌜ answer r ≡ session-of (now (bytes .entry)) ⌝ }
+    ensures few { λ r. ⌜ made r (λ calls. length (calls-left calls) ≤ 4096) ⌝ }
     ensures written_is_read { λ _. ⌜ Reads-what-is-written ⌝ }
     ensures read_is_written { λ _. ⌜ Writes-what-was-read (now (bytes .entry)) ⌝ }
     ensures front_decides { λ _. ⌜ Front-decides (now (bytes .entry)) ⌝ }
@@ -95,11 +97,11 @@ fn split_first(bytes: &[u8]) -> Option<(Call, &[u8])>
 pub impl Iterator for Calls<'_> as CallsIterator {
     type Item = Call;
 
-    ghost steps = { λ s r t. (r ≡ first (calls s)) × (calls t ≡ others (calls s)) };
+    ghost steps = { λ s r t. (r ≡ next-call (calls-left s)) × (calls-left t ≡ later-calls (calls-left s)) };
 
     ghost ends = { λ _. Unit {0} };
 
-    ghost left = { λ s. length (calls s) };
+    ghost left = { λ s. length (calls-left s) };
 
     fn next(&mut self) -> Option<Call> {
         let (call, rest) = split_first(self.bytes)?;
