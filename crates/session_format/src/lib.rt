@@ -8,3 +8,4 @@ pub use reader::read_session;
 pub use reader::Calls;
 pub use reader::CallsIterator;
 pub use refusals::FormatRefusal;
+pub use refusals::FormatRefusalDisplay;

@@ -1,0 +1,3 @@
+// The listing of a session for a person: one line for the count and one for each call, or the refusal.
+pub mod hex;
+pub mod lines;
