@@ -18,8 +18,12 @@ unfoldable pub call-lines : ℕ → List Call → List ℕ
 call-lines offset [] = []
 call-lines offset (call ∷ calls) = ended (call-line offset call) ++ call-lines (offset + 3) calls
 
+-- the first call stands behind the two bytes of the count
+abbrev pub listed-calls : List Call → List ℕ
+listed-calls calls = ended (count-line (length calls)) ++ call-lines 2 calls
+
 abbrev pub listed : Result (List Call) FormatRefusal → List ℕ
-listed (Ok calls) = ended (count-line (length calls)) ++ call-lines 2 calls
+listed (Ok calls) = listed-calls calls
 listed (Err refusal) = ended (refusal-line refusal)
 
 abbrev pub listing-of : List ℕ → List ℕ

@@ -1,0 +1,14 @@
+use mathlib.Core.Path.{_≡_, ap, _∙_}
+use Rattle.std.proofs.shelf.Results.{made-weaker}
+use Rattle.std.specs.Of.String.{string-bytes}
+use Rattle.session_format.specs.Held.{calls-left}
+use Rattle.session_listing.specs.Listing.{listed, listed-calls, listing-of}
+use Rattle.session_listing.proofs.text.listing.Needs as need
+
+pub returns-in-Ok : need.returns-in-Ok
+returns-in-Ok c =
+    made-weaker (c .list-session .result)
+    (λ text. string-bytes text ≡ listed-calls (calls-left (c .in-Ok .calls)))
+    (λ text. string-bytes text ≡ listing-of (c .args .bytes .now))
+    (λ text e. e ∙ ap listed (c .in-Ok .ensures tt .answer))
+    (c .list-session .ensures)
