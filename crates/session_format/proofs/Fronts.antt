@@ -10,7 +10,7 @@ use lib.ListN.{length, take, length-take}
 use Rattle.std.proofs.shelf.Lists.{take-all}
 use Rattle.std.specs.declared.result.Result.the-variants.{Err}
 use Rattle.session_format.specs.Reading.{session-of, counted}
-use Rattle.session_format.specs.Writing.{Front-decides}
+use Rattle.session_format.specs.Laws.{Front-decides}
 use Rattle.session_format.specs.declared.refusals.FormatRefusal.the-variants.{TooManyCalls, BytesLeftOver}
 
 too-many : (count : ℕ) (bytes : List ℕ) → ltb 4096 count ≡ true → counted count bytes ≡ Err TooManyCalls

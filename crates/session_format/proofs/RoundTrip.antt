@@ -20,11 +20,12 @@ use Rattle.std.specs.Vec.{made}
 use Rattle.session_format.specs.Encoding.{ascii, call-of, call-bytes, well-formed-if, line-operand, bits-6-to-4, bits-3-to-0, bit-7, unused}
 use Rattle.session_format.specs.Reading.{session-of, counted, well-formed, calls-in, followed-by}
 use Rattle.session_format.proofs.Shapes.{begins-with, few-calls}
-use Rattle.session_format.specs.Held.{Begins, answer, calls-left}
-use Rattle.session_format.specs.Writing.{calls-bytes, session-bytes, Holds-call, Holdable, Reads-what-is-written, Writes-what-was-read, Front-decides}
+use Rattle.session_format.specs.Views.{Begins, answer, calls-left}
+use Rattle.session_format.specs.Laws.{Holds-call, Reads-what-is-written, Writes-what-was-read}
+use Rattle.session_format.specs.Writing.{calls-bytes, session-bytes}
 use Rattle.session_format.specs.declared.encoding.Call.{Call}
 use Rattle.session_format.specs.declared.encoding.Call.the-variants.{Write, Read, Line, Clocks, Acknowledge, Fetch, IntLine, Reset}
-use Rattle.session_format.specs.declared.reader.Calls.{Calls}
+use Rattle.session_format.specs.declared.view.Calls.{Calls}
 use Rattle.session_format.specs.declared.refusals.FormatRefusal.{FormatRefusal}
 
 -- ---- what is written is read
@@ -153,7 +154,7 @@ module _ (letter first second : ℕ) (call : Call) where
       → well-formed-if (eqb (bits-6-to-4 second) 0) (Line first (bits-3-to-0 second) (bit-7 second)) ≡ Ok call → Written
   line-written small l e =
       let f : (eqb (bits-6-to-4 second) 0 ≡ true) × (Line first (bits-3-to-0 second) (bit-7 second) ≡ call) =
-        formed-call (eqb (bits-6-to-4 second) 0) (Line first (bits-3-to-0 second) (bit-7 second)) call e in
+      formed-call (eqb (bits-6-to-4 second) 0) (Line first (bits-3-to-0 second) (bit-7 second)) call e in
       ap call-bytes (sym (f .1)) ∙ (λ i. l i ∷ first ∷ line-operand-is second small (eqb-true _ _ (f .0)) i ∷ [])
 
   written-call : second < 256 → call-of letter first second ≡ Ok call → Written

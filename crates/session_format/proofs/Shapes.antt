@@ -16,7 +16,7 @@ use Rattle.session_format.specs.declared.encoding.Call.{Call}
 use Rattle.session_format.specs.declared.refusals.FormatRefusal.{FormatRefusal}
 use Rattle.session_format.specs.declared.refusals.FormatRefusal.the-variants.{EndsInsideCount}
 use Rattle.session_format.specs.Encoding.{call-of}
-use Rattle.session_format.specs.Held.{Begins, Begins-none, next-call}
+use Rattle.session_format.specs.Views.{Begins, Begins-none, next-call}
 use Rattle.session_format.specs.Reading.{well-formed, calls-in, followed-by, counted, session-of}
 
 -- the bytes after the first n, as a slice pattern's rest has them
@@ -86,7 +86,7 @@ few-calls (letter ∷ []) = omega arith
 few-calls (letter ∷ first ∷ []) = omega arith
 few-calls (letter ∷ first ∷ second ∷ rest) =
     let more : 3 * length (followed-by (call-of letter first second) (calls-in rest)) ≤ 3 + length rest =
-      few-more (call-of letter first second) (calls-in rest) (length rest) (few-calls rest) in
+    few-more (call-of letter first second) (calls-in rest) (length rest) (few-calls rest) in
     omega arith
 
 pub some-left : (r : Option Call) (calls : List Call) → r ≡ next-call calls → true ≡ isSome r → 0 < length calls

@@ -2,4 +2,5 @@ pub mod Refusals
 pub mod Encoding
 pub mod Reading
 pub mod Writing
-pub mod Held
+pub mod Laws
+pub mod Views

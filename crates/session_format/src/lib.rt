@@ -2,10 +2,11 @@
 pub mod encoding;
 pub mod reader;
 pub mod refusals;
+pub mod view;
 
 pub use encoding::Call;
 pub use reader::read_session;
-pub use reader::Calls;
-pub use reader::CallsIterator;
 pub use refusals::FormatRefusal;
 pub use refusals::FormatRefusalDisplay;
+pub use view::Calls;
+pub use view::CallsIterator;

@@ -4,38 +4,19 @@ ghost use Prim.Native.Nat.{_+_, _*_, _≤_};
 ghost use lib.ListN.{length};
 ghost use Rattle.std.specs.Vec.{made};
 ghost use Rattle.session_format.specs.Reading.{session-of, counted, well-formed};
-ghost use Rattle.session_format.specs.Writing.{Reads-what-is-written, Writes-what-was-read, Front-decides};
-ghost use Rattle.session_format.specs.Held.{calls-left, answer, next-call, later-calls, Splits};
-use crate::encoding::Call;
+ghost use Rattle.session_format.specs.Laws.{Reads-what-is-written, Writes-what-was-read, Front-decides};
+ghost use Rattle.session_format.specs.Views.{calls-left, answer};
 use crate::refusals::FormatRefusal;
+use crate::view::Calls;
+use crate::view::split_first;
 
 // The most calls that a session holds.
 const MOST_CALLS: u16 = 4096;
 
-// The calls of a session that are still to come, in order.
-#[derive(Clone, Copy)]
-pub struct Calls<'a> {
-    bytes: &'a [u8],
-}
-
-impl Calls<'_> {
-    // How many calls are still to come.
-    pub fn len(self) -> usize
-        ensures { λ r. ⌜ r ≡ length (calls-left (self .entry)) ⌝ }
-    {
-        let mut left = self;
-        let mut count = 0;
-        while left.next().is_some() {
-            count += 1;
-        }
-        count
-    }
-}
-
 // The calls of a session, or why the bytes are none. It calls and writes nothing.
 pub fn read_session(bytes: &[u8]) -> Result<Calls<'_>, FormatRefusal>
     ensures answer { λ r. ⌜ answer r ≡ session-of (now (bytes .entry)) ⌝ }
-    ensures few { λ r. ⌜ made r (λ calls. length (calls-left calls) ≤ 4096) ⌝ }
+    ensures at_most_4096 { λ r. ⌜ made r (λ calls. length (calls-left calls) ≤ 4096) ⌝ }
     ensures written_is_read { λ _. ⌜ Reads-what-is-written ⌝ }
     ensures read_is_written { λ _. ⌜ Writes-what-was-read (now (bytes .entry)) ⌝ }
     ensures front_decides { λ _. ⌜ Front-decides (now (bytes .entry)) ⌝ }
@@ -79,33 +60,4 @@ fn all_well_formed(bytes: &[u8]) -> bool
         left = rest;
     }
     left.is_empty()
-}
-
-// The call that the bytes begin with, and the bytes after it; none where they end or the call is malformed.
-fn split_first(bytes: &[u8]) -> Option<(Call, &[u8])>
-    ensures { λ r. ⌜ Splits (now (bytes .entry)) r ⌝ }
-{
-    let [letter, first, second, rest @ ..] = bytes else {
-        return None;
-    };
-    match Call::decode(*letter, *first, *second) {
-        Ok(call) => Some((call, rest)),
-        Err(_) => None,
-    }
-}
-
-pub impl Iterator for Calls<'_> as CallsIterator {
-    type Item = Call;
-
-    ghost steps = { λ s r t. (r ≡ next-call (calls-left s)) × (calls-left t ≡ later-calls (calls-left s)) };
-
-    ghost ends = { λ _. Unit {0} };
-
-    ghost left = { λ s. length (calls-left s) };
-
-    fn next(&mut self) -> Option<Call> {
-        let (call, rest) = split_first(self.bytes)?;
-        self.bytes = rest;
-        Some(call)
-    }
 }

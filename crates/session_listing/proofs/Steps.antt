@@ -6,7 +6,7 @@ use Prim.Native.Nat.{ℕ, _+_, _*_, _≤_}
 use lib.ListN.{length}
 use Rattle.std.specs.declared.option.Option.{Option}
 use Rattle.std.specs.declared.option.Option.the-variants.{Some, None}
-use Rattle.session_format.specs.Held.{next-call, later-calls}
+use Rattle.session_format.specs.Views.{next-call, later-calls}
 use Rattle.session_format.specs.declared.encoding.Call.{Call}
 use Rattle.session_listing.specs.Lines.{call-line}
 use Rattle.session_listing.specs.Listing.{call-lines, ended}

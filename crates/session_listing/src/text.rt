@@ -5,7 +5,7 @@ ghost use Prim.Native.Nat.{_≤_};
 ghost use lib.ListN.{length};
 ghost use Rattle.std.specs.Of.String.{string-bytes};
 ghost use Rattle.std.specs.Vec.{made};
-ghost use Rattle.session_format.specs.Held.{calls-left};
+ghost use Rattle.session_format.specs.Views.{calls-left};
 ghost use Rattle.session_listing.specs.Listing.{call-lines, listed-calls, listing-of, ended};
 ghost use Rattle.session_listing.specs.Lines.{call-line, count-line};
 use crate::lines::CallLine;

@@ -9,7 +9,8 @@ fn check_listing(heap: Global, bytes: &[u8], expected: &str) -> Result<(), Fail>
 
 #[test]
 fn each_kind_of_call(rt: LibcRuntime) -> Result<(), Fail> {
-    let bytes = b"\x09\x00W\x9A\xBCR\xDE\x00L\x0F\x80L\x10\x0FC\xFF\x00A\x00\x00F\xED\x00I\x00\x00Z\x00\x00";
+    let bytes =
+        b"\x09\x00W\x9A\xBCR\xDE\x00L\x0F\x80L\x10\x0FC\xFF\x00A\x00\x00F\xED\x00I\x00\x00Z\x00\x00";
     check_listing(
         rt.alloc(),
         bytes,
@@ -36,7 +37,19 @@ fn each_refusal(rt: LibcRuntime) -> Result<(), Fail> {
     let heap = rt.alloc();
     check_listing(heap, b"\x00", "refused 8: the bytes end inside the count\n")?;
     check_listing(heap, b"\x01\x10", "refused 9: the count is above 4,096\n")?;
-    check_listing(heap, b"\x01\x00A\x00", "refused 8: the bytes end inside a call\n")?;
-    check_listing(heap, b"\x00\x00A", "refused 10: bytes are left over after the last call\n")?;
-    check_listing(heap, b"\x01\x00B\x00\x00", "refused 11: a call is malformed\n")
+    check_listing(
+        heap,
+        b"\x01\x00A\x00",
+        "refused 8: the bytes end inside a call\n",
+    )?;
+    check_listing(
+        heap,
+        b"\x00\x00A",
+        "refused 10: bytes are left over after the last call\n",
+    )?;
+    check_listing(
+        heap,
+        b"\x01\x00B\x00\x00",
+        "refused 11: a call is malformed\n",
+    )
 }

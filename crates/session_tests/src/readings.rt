@@ -1,8 +1,8 @@
 // What the reader answers: a session call by call, and each refusal at its edge.
 use session_format::Call;
+use session_format::CallsIterator;
 use session_format::encoding::CallDebug;
 use session_format::encoding::CallPartialEq;
-use session_format::CallsIterator;
 use session_format::read_session;
 use session_format::refusals::FormatRefusalDebug;
 use std::alloc::AllocError;
@@ -32,81 +32,220 @@ fn check_all(cases: &[Case<'_>]) -> Result<(), Fail> {
 
 #[test]
 fn bytes_that_end_inside_the_count_or_a_call() -> Result<(), Fail> {
-    check_all(&[
-        Case { bytes: b"", refusal: 8 },
-        Case { bytes: b"\x00", refusal: 8 },
-        Case { bytes: b"\x00\x00", refusal: 0 },
-        Case { bytes: b"\x01\x00", refusal: 8 },
-        Case { bytes: b"\x01\x00A", refusal: 8 },
-        Case { bytes: b"\x01\x00A\x00", refusal: 8 },
-        Case { bytes: b"\x01\x00A\x00\x00", refusal: 0 },
-        Case { bytes: b"\x02\x00A\x00\x00", refusal: 8 },
-    ])
+    check_all(
+        &[
+            Case {
+                bytes: b"",
+                refusal: 8,
+            },
+            Case {
+                bytes: b"\x00",
+                refusal: 8,
+            },
+            Case {
+                bytes: b"\x00\x00",
+                refusal: 0,
+            },
+            Case {
+                bytes: b"\x01\x00",
+                refusal: 8,
+            },
+            Case {
+                bytes: b"\x01\x00A",
+                refusal: 8,
+            },
+            Case {
+                bytes: b"\x01\x00A\x00",
+                refusal: 8,
+            },
+            Case {
+                bytes: b"\x01\x00A\x00\x00",
+                refusal: 0,
+            },
+            Case {
+                bytes: b"\x02\x00A\x00\x00",
+                refusal: 8,
+            },
+        ],
+    )
 }
 
 #[test]
 fn counts_and_bytes_left_over() -> Result<(), Fail> {
-    check_all(&[
-        Case { bytes: b"\x00\x00\x00", refusal: 10 },
-        Case { bytes: b"\x01\x00A\x00\x00\x00", refusal: 10 },
-        // 4,096 calls that are missing, and 4,097
-        Case { bytes: b"\x00\x10", refusal: 8 },
-        Case { bytes: b"\x01\x10", refusal: 9 },
-        Case { bytes: b"\xFF\xFF", refusal: 9 },
-        // a count with its bytes the other way round: 256 calls, not 1
-        Case { bytes: b"\x00\x01A\x00\x00", refusal: 8 },
-    ])
+    check_all(
+        &[
+            Case {
+                bytes: b"\x00\x00\x00",
+                refusal: 10,
+            },
+            Case {
+                bytes: b"\x01\x00A\x00\x00\x00",
+                refusal: 10,
+            },
+            // 4,096 calls that are missing, and 4,097
+            Case {
+                bytes: b"\x00\x10",
+                refusal: 8,
+            },
+            Case {
+                bytes: b"\x01\x10",
+                refusal: 9,
+            },
+            Case {
+                bytes: b"\xFF\xFF",
+                refusal: 9,
+            },
+            // a count with its bytes the other way round: 256 calls, not 1
+            Case {
+                bytes: b"\x00\x01A\x00\x00",
+                refusal: 8,
+            },
+        ],
+    )
 }
 
 #[test]
 fn malformed_calls() -> Result<(), Fail> {
-    check_all(&[
-        Case { bytes: b"\x01\x00B\x00\x00", refusal: 11 },
-        Case { bytes: b"\x01\x00w\x00\x00", refusal: 11 },
-        Case { bytes: b"\x01\x00\x00\x00\x00", refusal: 11 },
-        Case { bytes: b"\x01\x00R\x05\x01", refusal: 11 },
-        Case { bytes: b"\x01\x00C\x05\x01", refusal: 11 },
-        Case { bytes: b"\x01\x00F\x05\x01", refusal: 11 },
-        Case { bytes: b"\x01\x00A\x01\x00", refusal: 11 },
-        Case { bytes: b"\x01\x00A\x00\x01", refusal: 11 },
-        Case { bytes: b"\x01\x00I\x01\x00", refusal: 11 },
-        Case { bytes: b"\x01\x00I\x00\x01", refusal: 11 },
-        Case { bytes: b"\x01\x00Z\x01\x00", refusal: 11 },
-        Case { bytes: b"\x01\x00Z\x00\x01", refusal: 11 },
-        Case { bytes: b"\x01\x00L\x00\x0F", refusal: 0 },
-        Case { bytes: b"\x01\x00L\x00\x8F", refusal: 0 },
-        Case { bytes: b"\x01\x00L\x00\x10", refusal: 11 },
-        Case { bytes: b"\x01\x00L\x00\x20", refusal: 11 },
-        Case { bytes: b"\x01\x00L\x00\x40", refusal: 11 },
-        Case { bytes: b"\x01\x00L\x00\xC0", refusal: 11 },
-        // the second call
-        Case { bytes: b"\x02\x00W\xFF\xFF?\x00\x00", refusal: 11 },
-    ])
+    check_all(
+        &[
+            Case {
+                bytes: b"\x01\x00B\x00\x00",
+                refusal: 11,
+            },
+            Case {
+                bytes: b"\x01\x00w\x00\x00",
+                refusal: 11,
+            },
+            Case {
+                bytes: b"\x01\x00\x00\x00\x00",
+                refusal: 11,
+            },
+            Case {
+                bytes: b"\x01\x00R\x05\x01",
+                refusal: 11,
+            },
+            Case {
+                bytes: b"\x01\x00C\x05\x01",
+                refusal: 11,
+            },
+            Case {
+                bytes: b"\x01\x00F\x05\x01",
+                refusal: 11,
+            },
+            Case {
+                bytes: b"\x01\x00A\x01\x00",
+                refusal: 11,
+            },
+            Case {
+                bytes: b"\x01\x00A\x00\x01",
+                refusal: 11,
+            },
+            Case {
+                bytes: b"\x01\x00I\x01\x00",
+                refusal: 11,
+            },
+            Case {
+                bytes: b"\x01\x00I\x00\x01",
+                refusal: 11,
+            },
+            Case {
+                bytes: b"\x01\x00Z\x01\x00",
+                refusal: 11,
+            },
+            Case {
+                bytes: b"\x01\x00Z\x00\x01",
+                refusal: 11,
+            },
+            Case {
+                bytes: b"\x01\x00L\x00\x0F",
+                refusal: 0,
+            },
+            Case {
+                bytes: b"\x01\x00L\x00\x8F",
+                refusal: 0,
+            },
+            Case {
+                bytes: b"\x01\x00L\x00\x10",
+                refusal: 11,
+            },
+            Case {
+                bytes: b"\x01\x00L\x00\x20",
+                refusal: 11,
+            },
+            Case {
+                bytes: b"\x01\x00L\x00\x40",
+                refusal: 11,
+            },
+            Case {
+                bytes: b"\x01\x00L\x00\xC0",
+                refusal: 11,
+            },
+            // the second call
+            Case {
+                bytes: b"\x02\x00W\xFF\xFF?\x00\x00",
+                refusal: 11,
+            },
+        ],
+    )
 }
 
 // Each is refused by an earlier refusal where a later one fits as well.
 #[test]
 fn the_order_of_refusals() -> Result<(), Fail> {
-    check_all(&[
-        Case { bytes: b"\x01\x10B", refusal: 9 },
-        Case { bytes: b"\x02\x00B\x00\x00", refusal: 8 },
-        Case { bytes: b"\x00\x00B\x00\x00", refusal: 10 },
-        Case { bytes: b"\x01\x00B\x00\x00\x00", refusal: 10 },
-    ])
+    check_all(
+        &[
+            Case {
+                bytes: b"\x01\x10B",
+                refusal: 9,
+            },
+            Case {
+                bytes: b"\x02\x00B\x00\x00",
+                refusal: 8,
+            },
+            Case {
+                bytes: b"\x00\x00B\x00\x00",
+                refusal: 10,
+            },
+            Case {
+                bytes: b"\x01\x00B\x00\x00\x00",
+                refusal: 10,
+            },
+        ],
+    )
 }
 
 #[test]
 fn eleven_calls() -> Result<(), Fail> {
-    let bytes = b"\x0B\x00W\x08\x8DW\x00\x80W\x07\x80W\x08\x8BW\x00\x80L\x00\x87I\x00\x00A\x00\x00F\xED\x00F\x4D\x00R\x05\x00";
+    let bytes =
+        b"\x0B\x00W\x08\x8DW\x00\x80W\x07\x80W\x08\x8BW\x00\x80L\x00\x87I\x00\x00A\x00\x00F\xED\x00F\x4D\x00R\x05\x00";
     let mut calls = read_session(bytes)?;
     check_eq(calls.len(), 11)?;
     let expected = [
-        Call::Write { port: 0x08, byte: 0x8D },
-        Call::Write { port: 0x00, byte: 0x80 },
-        Call::Write { port: 0x07, byte: 0x80 },
-        Call::Write { port: 0x08, byte: 0x8B },
-        Call::Write { port: 0x00, byte: 0x80 },
-        Call::Line { port: 0x00, line: 7, high: true },
+        Call::Write {
+            port: 0x08,
+            byte: 0x8D,
+        },
+        Call::Write {
+            port: 0x00,
+            byte: 0x80,
+        },
+        Call::Write {
+            port: 0x07,
+            byte: 0x80,
+        },
+        Call::Write {
+            port: 0x08,
+            byte: 0x8B,
+        },
+        Call::Write {
+            port: 0x00,
+            byte: 0x80,
+        },
+        Call::Line {
+            port: 0x00,
+            line: 7,
+            high: true,
+        },
         Call::IntLine,
         Call::Acknowledge,
         Call::Fetch { byte: 0xED },

@@ -1,6 +1,6 @@
 use mathlib.Core.Path.{_≡_, sym, ap, _∙_}
 use borrow.Author.Needs.{needs}
-use Rattle.session_format.specs.Held.{answer}
+use Rattle.session_format.specs.Views.{answer}
 use Rattle.session_format.specs.Reading.{counted, session-of}
 use Rattle.session_format.proofs.Fronts.{front-decides}
 use Rattle.session_format.proofs.RoundTrip.{few-answered, reads-what-is-written, writes-what-was-read}
@@ -10,12 +10,12 @@ use Rattle.session_format.proofs.reader.read_session.Needs as need
 pub returns : need.returns
 returns c =
     let same : answer (c .read-calls .result) ≡ session-of (c .args .bytes .now) =
-      c .read-calls .ensures
-      ∙ ap (λ n. counted n (after 2 (c .args .bytes .now))) (c .count-of .ensures)
-      ∙ sym (session-by-places (c .args .bytes .now) (search needs)) in
+    c .read-calls .ensures
+    ∙ ap (λ n. counted n (after 2 (c .args .bytes .now))) (c .count-of .ensures)
+    ∙ sym (session-by-places (c .args .bytes .now) (search needs)) in
     record {
       answer = same;
-      few = few-answered (c .read-calls .result) (c .args .bytes .now) same;
+      at-most-4096 = few-answered (c .read-calls .result) (c .args .bytes .now) same;
       written-is-read = reads-what-is-written;
       read-is-written = writes-what-was-read (c .args .bytes .now) (c .typed .bytes);
       front-decides = front-decides (c .args .bytes .now);
@@ -24,7 +24,7 @@ returns c =
 pub returns-in-rest : need.returns-in-rest
 returns-in-rest c = record {
   answer = sym (session-short (c .args .bytes .now) (search needs));
-  few = tt;
+  at-most-4096 = tt;
   written-is-read = reads-what-is-written;
   read-is-written = writes-what-was-read (c .args .bytes .now) (c .typed .bytes);
   front-decides = front-decides (c .args .bytes .now);

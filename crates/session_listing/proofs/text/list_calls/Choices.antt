@@ -3,7 +3,7 @@ use mathlib.Core.Path.{_≡_}
 use Prim.Native.Nat.{_+_, _*_, _≤_}
 use lib.ListN.{length}
 use Rattle.std.specs.Of.String.{string-bytes}
-use Rattle.session_format.specs.Held.{calls-left}
+use Rattle.session_format.specs.Views.{calls-left}
 use Rattle.session_listing.specs.Listing.{call-lines}
 use Rattle.session_listing.proofs.text.list_calls.Given as given
 

@@ -1,7 +1,7 @@
 use mathlib.Core.Path.{_≡_, ap, _∙_}
 use Rattle.std.proofs.shelf.Results.{made-weaker}
 use Rattle.std.specs.Of.String.{string-bytes}
-use Rattle.session_format.specs.Held.{calls-left}
+use Rattle.session_format.specs.Views.{calls-left}
 use Rattle.session_listing.specs.Listing.{listed, listed-calls, listing-of}
 use Rattle.session_listing.proofs.text.listing.Needs as need
 

@@ -14,6 +14,6 @@ pub returns : need.returns
 returns g c plain ok =
     subst (λ (text : List ℕ). Put (g .W·Write .took) (c .args .f .now) text (c .write .last .self))
     (λ i.
-      as-itself _ _ _ (c .from-high .ensures) (c .digit .ensures .ascii) (c .digit .ensures .value) i
-      ++ as-itself _ _ _ (c .from-low .ensures) (c .digit-2 .ensures .ascii) (c .digit-2 .ensures .value) i)
+    as-itself _ _ _ (c .from-high .ensures) (c .digit .ensures .ascii) (c .digit .ensures .value) i
+    ++ as-itself _ _ _ (c .from-low .ensures) (c .digit-2 .ensures .ascii) (c .digit-2 .ensures .value) i)
     (c .write .ensures .shows plain ok)

@@ -1,8 +1,8 @@
 use mathlib.Core.Path.{_≡_}
 use Prim.Native.Nat.{_+_}
 use lib.ListN.{length}
-use Rattle.session_format.specs.Held.{calls-left}
-use Rattle.session_format.proofs.reader.Calls.len.Given as given
+use Rattle.session_format.specs.Views.{calls-left}
+use Rattle.session_format.proofs.view.Calls.len.Given as given
 
 abbrev pub Inv-loop-left : given.InvT-loop-left
 Inv-loop-left l = l .count + length (calls-left (l .left)) ≡ length (calls-left (l .self))

@@ -1,7 +1,7 @@
 use mathlib.Core.Path.{sym, _∙_}
 use borrow.Author.Needs.{needs}
 use Rattle.session_format.proofs.Shapes.{begins-at, begins-malformed, begins-short}
-use Rattle.session_format.proofs.reader.split_first.Needs as need
+use Rattle.session_format.proofs.view.split_first.Needs as need
 
 pub returns-in-rest : need.returns-in-rest
 returns-in-rest c = begins-short (c .args .bytes .now) (search needs)

@@ -12,7 +12,7 @@ use Rattle.std.specs.declared.result.Result.the-variants.{Ok, Err}
 use Rattle.session_format.specs.Reading.{calls-in, well-formed}
 use Rattle.session_format.specs.declared.encoding.Call.{Call}
 use Rattle.session_format.specs.declared.refusals.FormatRefusal.{FormatRefusal}
-use Rattle.session_format.specs.declared.reader.Calls.{Calls}
+use Rattle.session_format.specs.declared.view.Calls.{Calls}
 
 -- the calls that are still to come
 abbrev pub calls-left : Calls → List Call

@@ -1,6 +1,6 @@
 use native.Mathlib.Omega.{arith}
 use Rattle.session_format.proofs.Shapes.{few-calls, some-left}
-use Rattle.session_format.proofs.reader.Calls.len.Needs as need
+use Rattle.session_format.proofs.view.Calls.len.Needs as need
 
 pub add-count : need.add-count
 add-count c =
