@@ -1,15 +1,15 @@
 -- The front of bytes that are longer than any session tells what the whole tells. Assumes nothing.
-use mathlib.Core.Bool.{Bool, true, false, cond}
+use mathlib.Core.Bool.{Bool, true, false}
 use mathlib.Core.List.{List, [], _∷_}
 use mathlib.Core.Path.{_≡_, refl, sym, ap, _∙_}
-use Prim.Native.Nat.{ℕ, _+_, _*_, _≤_, _<_}
+use Prim.Native.Nat.{ℕ, _+_, _*_, _≤_}
 use native.Mathlib.Omega.{arith}
 use borrow.Author.Tests.{le-ltb, lt-ltb, ltb-true, ltb-false}
 use lib.Dec.{ltb}
 use lib.ListN.{length, take, length-take}
 use Rattle.std.proofs.shelf.Lists.{take-all}
 use Rattle.std.specs.declared.result.Result.the-variants.{Err}
-use Rattle.session_format.specs.Reading.{session-of, counted}
+use Rattle.session_format.specs.Reading.{counted}
 use Rattle.session_format.specs.Laws.{Front-decides}
 use Rattle.session_format.specs.declared.refusals.FormatRefusal.the-variants.{TooManyCalls, BytesLeftOver}
 

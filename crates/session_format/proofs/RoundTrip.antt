@@ -5,13 +5,13 @@ use mathlib.Core.Logic.{_⊎_, inl, inr}
 use mathlib.Core.Path.{_≡_, refl, sym, ap, _∙_}
 use Prim.Native.Nat.{ℕ, _+_, _*_, _/_, _%_, _≤_, _<_}
 use native.Mathlib.Omega.{arith}
-use borrow.Author.Tests.{eqb-true, eq-eqb, le-leb, lt-leb, le-ltb, lt-ltb, ltb-false, leb-true, leb-false}
+use borrow.Author.Tests.{clash, eqb-true, eq-eqb, le-leb, lt-leb, le-ltb, ltb-false, leb-true, leb-false}
 use mir.Syntax.{w8}
 use mir.Val.{Fits}
 use lib.Dec.{eqb, leb, ltb}
 use Rattle.std.proofs.shelf.Elements.{all-from-getD}
 use Rattle.std.proofs.shelf.Tests.{cond-both}
-use lib.ListN.{length, getD, take, length-append}
+use lib.ListN.{length, getD, length-append}
 use Rattle.std.specs.declared.result.Result.{Result}
 use Rattle.std.specs.declared.result.Result.the-variants.{Ok, Err}
 use Rattle.std.specs.shelf.Lists.{All}
@@ -22,7 +22,7 @@ use Rattle.session_format.specs.Reading.{session-of, counted, well-formed, cal
 use Rattle.session_format.proofs.Shapes.{begins-with, few-calls}
 use Rattle.session_format.specs.Views.{Begins, answer, calls-left}
 use Rattle.session_format.specs.Laws.{Holds-call, Reads-what-is-written, Writes-what-was-read}
-use Rattle.session_format.specs.Writing.{calls-bytes, session-bytes}
+use Rattle.session_format.specs.Writing.{calls-bytes}
 use Rattle.session_format.specs.declared.encoding.Call.{Call}
 use Rattle.session_format.specs.declared.encoding.Call.the-variants.{Write, Read, Line, Clocks, Acknowledge, Fetch, IntLine, Reset}
 use Rattle.session_format.specs.declared.view.Calls.{Calls}
@@ -108,7 +108,7 @@ formed-call false call other e = absurd (refused-not-ok _ other e)
 
 both : (a b : Bool) → (a && b) ≡ true → (a ≡ true) × (b ≡ true)
 both true b e = (refl, e)
-both false b e = absurd (let z : _≡_ {A = ℕ} 0 1 = cc in omega arith)
+both false b e = absurd (clash e)
 
 -- a letter that is tested for is this one, or the tests go on
 by-letter : (letter k : ℕ) (x y : Result Call FormatRefusal) (call : Call) (P : Type 0) → cond (eqb letter k) x y ≡ Ok call
@@ -175,13 +175,13 @@ written-more : (letter first second : ℕ) (rest : List ℕ) (r : Result Call Fo
     → calls-bytes (followed-by r (calls-in rest)) ≡ letter ∷ first ∷ second ∷ rest
 written-more letter first second rest (Ok call) e small formed more =
     λ i. written-call letter first second call small e i ++ more formed i
-written-more letter first second rest (Err why) e small formed more = absurd (let z : _≡_ {A = ℕ} 0 1 = cc in omega arith)
+written-more letter first second rest (Err why) e small formed more = absurd (clash formed)
 
 written-calls : (bytes : List ℕ) → All (λ b. b < 256) bytes → well-formed bytes ≡ true → calls-bytes (calls-in bytes) ≡ bytes
 unfolding well-formed calls-in
 written-calls [] small formed = refl
-written-calls (letter ∷ []) small formed = absurd (let z : _≡_ {A = ℕ} 0 1 = cc in omega arith)
-written-calls (letter ∷ first ∷ []) small formed = absurd (let z : _≡_ {A = ℕ} 0 1 = cc in omega arith)
+written-calls (letter ∷ []) small formed = absurd (clash formed)
+written-calls (letter ∷ first ∷ []) small formed = absurd (clash formed)
 written-calls (letter ∷ first ∷ second ∷ rest) small formed =
     written-more letter first second rest (call-of letter first second) refl (small .1 .1 .0) formed (written-calls rest (small .1 .1 .1))
 

@@ -1,4 +1,4 @@
-use mathlib.Core.Path.{sym, _∙_}
+use mathlib.Core.Path.{sym}
 use borrow.Author.Needs.{needs}
 use Rattle.session_format.proofs.Shapes.{begins-at, begins-malformed, begins-short}
 use Rattle.session_format.proofs.view.split_first.Needs as need
