@@ -7,7 +7,8 @@ ghost use Rattle.std.specs.Of.String.{string-bytes};
 ghost use Rattle.std.specs.Vec.{made};
 ghost use Rattle.session_format.specs.Views.{calls-left};
 ghost use Rattle.session_listing.specs.Listing.{call-lines, listed-calls, listing-of, ended};
-ghost use Rattle.session_listing.specs.Lines.{call-line, count-line};
+ghost use Rattle.session_listing.specs.Laws.{One-line-each};
+ghost use Rattle.session_listing.specs.Lines.{call-line, refusal-line};
 use crate::lines::CallLine;
 use crate::lines::CallLineDisplay;
 use crate::lines::CountLine;
@@ -16,21 +17,27 @@ use crate::lines::RefusalLine;
 use crate::lines::RefusalLineDisplay;
 use session_format::Calls;
 use session_format::CallsIterator;
+use session_format::FormatRefusal;
 use session_format::read_session;
 use std::alloc::AllocError;
 use std::alloc::Global;
 
 // Each line of the session, or the line of its refusal, with a line feed after each.
 pub fn listing(heap: Global, bytes: &[u8]) -> Result<String, AllocError>
-    ensures { λ r. ⌜ made r (λ text. string-bytes text ≡ listing-of (now (bytes .entry))) ⌝ }
+    ensures text { λ r. ⌜ made r (λ text. string-bytes text ≡ listing-of (now (bytes .entry))) ⌝ }
+    ensures one_line_each { λ _. ⌜ One-line-each (now (bytes .entry)) ⌝ }
 {
     match read_session(bytes) {
         Ok(calls) => list_session(heap, calls),
-        Err(refusal) => {
-            let line = RefusalLine(refusal);
-            format!(heap, "{line}\n")
-        }
+        Err(refusal) => list_refusal(heap, refusal),
     }
+}
+
+fn list_refusal(heap: Global, refusal: FormatRefusal) -> Result<String, AllocError>
+    ensures { λ r. ⌜ made r (λ text. string-bytes text ≡ ended (refusal-line refusal)) ⌝ }
+{
+    let line = RefusalLine(refusal);
+    format!(heap, "{line}\n")
 }
 
 fn list_session(heap: Global, calls: Calls<'_>) -> Result<String, AllocError>

@@ -1,0 +1,26 @@
+-- What holds of every listing. Assumes nothing.
+use mathlib.Core.Bool.{cond}
+use mathlib.Core.List.{List, [], _∷_}
+use mathlib.Core.Path.{_≡_}
+use Prim.Native.Nat.{ℕ, suc, _+_}
+use lib.Dec.{eqb}
+use lib.ListN.{length}
+use Rattle.std.specs.declared.result.Result.{Result}
+use Rattle.std.specs.declared.result.Result.the-variants.{Ok, Err}
+use Rattle.session_format.specs.Reading.{session-of}
+use Rattle.session_format.specs.declared.encoding.Call.{Call}
+use Rattle.session_format.specs.declared.refusals.FormatRefusal.{FormatRefusal}
+use Rattle.session_listing.specs.Listing.{listing-of}
+
+-- how many lines a text has that ends each with a line feed
+abbrev pub line-feeds : List ℕ → ℕ
+line-feeds [] = 0
+line-feeds (byte ∷ bytes) = cond (eqb byte 10) (suc (line-feeds bytes)) (line-feeds bytes)
+
+-- a line for the count and one for each call, or one for the refusal
+abbrev pub lines-due : Result (List Call) FormatRefusal → ℕ
+lines-due (Ok calls) = 1 + length calls
+lines-due (Err refusal) = 1
+
+abbrev pub One-line-each : List ℕ → Type 0
+One-line-each bytes = line-feeds (listing-of bytes) ≡ lines-due (session-of bytes)
