@@ -1,4 +1,4 @@
--- The front of bytes that are longer than any session tells what the whole tells. Assumes nothing.
+-- The front of bytes that are longer than any session tells what the whole tells.
 use mathlib.Core.Bool.{Bool, true, false}
 use mathlib.Core.List.{List, [], _∷_}
 use mathlib.Core.Path.{_≡_, refl, sym, ap, _∙_}

@@ -1,4 +1,4 @@
--- Reading and writing a session undo each other. Assumes nothing.
+-- Reading and writing a session undo each other.
 use mathlib.Core.Bool.{Bool, true, false, cond, _&&_}
 use mathlib.Core.List.{List, [], _∷_, _++_}
 use mathlib.Core.Logic.{_⊎_, inl, inr}
@@ -17,14 +17,14 @@ use Rattle.std.specs.declared.result.Result.the-variants.{Ok, Err}
 use Rattle.std.specs.shelf.Lists.{All}
 use Rattle.std.specs.Results.{isOk}
 use Rattle.std.specs.Vec.{made}
-use Rattle.session_format.specs.Encoding.{ascii, call-of, call-bytes, well-formed-if, line-operand, bits-6-to-4, bits-3-to-0, bit-7, unused}
+use Rattle.session_format.specs.Encoding.{ascii, call-of, call-bytes, well-formed-if, line-operand, bits-6-to-4, bits-3-to-0, bit-7, is-unused}
 use Rattle.session_format.specs.Reading.{session-of, counted, well-formed, calls-in, followed-by}
 use Rattle.session_format.proofs.Shapes.{begins-with, few-calls}
 use Rattle.session_format.specs.Views.{Begins, answer, calls-left}
 use Rattle.session_format.specs.Laws.{Holds-call, Reads-what-is-written, Writes-what-was-read}
-use Rattle.session_format.specs.Writing.{calls-bytes}
+use Rattle.session_format.specs.Writing.{bytes-of-calls}
 use Rattle.session_format.specs.declared.encoding.Call.{Call}
-use Rattle.session_format.specs.declared.encoding.Call.the-variants.{Write, Read, Line, Clocks, Acknowledge, Fetch, IntLine, Reset}
+use Rattle.session_format.specs.declared.encoding.Call.the-variants.{Write, Read, Line, Clocks, Acknowledge, Fetch, AskInt, Reset}
 use Rattle.session_format.specs.declared.view.Calls.{Calls}
 use Rattle.session_format.specs.declared.refusals.FormatRefusal.{FormatRefusal}
 
@@ -51,18 +51,18 @@ begins-back (Line port line high) rest h =
 begins-back (Clocks number) rest h = begins-with (ascii "C") number 0 rest (Clocks number) refl
 begins-back Acknowledge rest h = begins-with (ascii "A") 0 0 rest Acknowledge refl
 begins-back (Fetch byte) rest h = begins-with (ascii "F") byte 0 rest (Fetch byte) refl
-begins-back IntLine rest h = begins-with (ascii "I") 0 0 rest IntLine refl
+begins-back AskInt rest h = begins-with (ascii "I") 0 0 rest AskInt refl
 begins-back Reset rest h = begins-with (ascii "Z") 0 0 rest Reset refl
 
-formed-back : (calls : List Call) → All Holds-call calls → well-formed (calls-bytes calls) ≡ true
+formed-back : (calls : List Call) → All Holds-call calls → well-formed (bytes-of-calls calls) ≡ true
 unfolding well-formed
 formed-back [] h = refl
-formed-back (call ∷ calls) h = begins-back call (calls-bytes calls) (h .0) .formed ∙ formed-back calls (h .1)
+formed-back (call ∷ calls) h = begins-back call (bytes-of-calls calls) (h .0) .formed ∙ formed-back calls (h .1)
 
-calls-back : (calls : List Call) → All Holds-call calls → calls-in (calls-bytes calls) ≡ calls
+calls-back : (calls : List Call) → All Holds-call calls → calls-in (bytes-of-calls calls) ≡ calls
 unfolding calls-in
 calls-back [] h = refl
-calls-back (call ∷ calls) h = begins-back call (calls-bytes calls) (h .0) .calls ∙ ap (λ l. call ∷ l) (calls-back calls (h .1))
+calls-back (call ∷ calls) h = begins-back call (bytes-of-calls calls) (h .0) .calls ∙ ap (λ l. call ∷ l) (calls-back calls (h .1))
 
 length-call : (call : Call) → length (call-bytes call) ≡ 3
 length-call (Write port byte) = refl
@@ -71,10 +71,10 @@ length-call (Line port line high) = refl
 length-call (Clocks number) = refl
 length-call Acknowledge = refl
 length-call (Fetch byte) = refl
-length-call IntLine = refl
+length-call AskInt = refl
 length-call Reset = refl
 
-length-calls : (calls : List Call) → length (calls-bytes calls) ≡ 3 * length calls
+length-calls : (calls : List Call) → length (bytes-of-calls calls) ≡ 3 * length calls
 length-calls [] = refl
 length-calls (call ∷ calls) = simp length-append (omega (arith, length-call call, length-calls calls))
 
@@ -88,8 +88,8 @@ counted-back count bytes few long formed =
 
 pub reads-what-is-written : Reads-what-is-written
 reads-what-is-written calls h =
-    ap (λ n. counted n (calls-bytes calls)) (omega arith)
-    ∙ counted-back (length calls) (calls-bytes calls) (h .few) (length-calls calls) (formed-back calls (h .each))
+    ap (λ n. counted n (bytes-of-calls calls)) (omega arith)
+    ∙ counted-back (length calls) (bytes-of-calls calls) (h .few) (length-calls calls) (formed-back calls (h .each))
     ∙ ap (λ l. Ok l) (calls-back calls (h .each))
 
 -- ---- what was read is written
@@ -122,7 +122,7 @@ by-letter letter k x y call P e here on =
 ok-is : (call other : Call) → _≡_ {A = Result Call FormatRefusal} (Ok call) (Ok other) → other ≡ call
 ok-is call other e = cc
 
-unused-is : (operand : ℕ) → unused operand ≡ true → 0 ≡ operand
+unused-is : (operand : ℕ) → is-unused operand ≡ true → 0 ≡ operand
 unused-is operand e = sym (eqb-true operand 0 e)
 
 line-operand-is : (operand : ℕ) → operand < 256 → bits-6-to-4 operand ≡ 0
@@ -138,16 +138,16 @@ module _ (letter first second : ℕ) (call : Call) where
   Written = call-bytes call ≡ letter ∷ first ∷ second ∷ []
 
   one-operand : (k : ℕ) (form : ℕ → Call) → ((n : ℕ) → call-bytes (form n) ≡ k ∷ n ∷ 0 ∷ []) → k ≡ letter
-      → well-formed-if (unused second) (form first) ≡ Ok call → Written
+      → well-formed-if (is-unused second) (form first) ≡ Ok call → Written
   one-operand k form bytes l e =
-      let f : (unused second ≡ true) × (form first ≡ call) = formed-call (unused second) (form first) call e in
+      let f : (is-unused second ≡ true) × (form first ≡ call) = formed-call (is-unused second) (form first) call e in
       ap call-bytes (sym (f .1)) ∙ bytes first ∙ (λ i. l i ∷ first ∷ unused-is second (f .0) i ∷ [])
 
   no-operand : (k : ℕ) (form : Call) → call-bytes form ≡ k ∷ 0 ∷ 0 ∷ [] → k ≡ letter
-      → well-formed-if (unused first && unused second) form ≡ Ok call → Written
+      → well-formed-if (is-unused first && is-unused second) form ≡ Ok call → Written
   no-operand k form bytes l e =
-      let f : ((unused first && unused second) ≡ true) × (form ≡ call) = formed-call (unused first && unused second) form call e in
-      let u : (unused first ≡ true) × (unused second ≡ true) = both (unused first) (unused second) (f .0) in
+      let f : ((is-unused first && is-unused second) ≡ true) × (form ≡ call) = formed-call (is-unused first && is-unused second) form call e in
+      let u : (is-unused first ≡ true) × (is-unused second ≡ true) = both (is-unused first) (is-unused second) (f .0) in
       ap call-bytes (sym (f .1)) ∙ bytes ∙ (λ i. l i ∷ unused-is first (u .0) i ∷ unused-is second (u .1) i ∷ [])
 
   line-written : second < 256 → ascii "L" ≡ letter
@@ -166,18 +166,18 @@ module _ (letter first second : ℕ) (call : Call) where
       (λ e. by-letter letter (ascii "C") _ _ call Written e (one-operand (ascii "C") (λ n. Clocks n) (λ n. refl))
       (λ e. by-letter letter (ascii "A") _ _ call Written e (no-operand (ascii "A") Acknowledge refl)
       (λ e. by-letter letter (ascii "F") _ _ call Written e (one-operand (ascii "F") (λ n. Fetch n) (λ n. refl))
-      (λ e. by-letter letter (ascii "I") _ _ call Written e (no-operand (ascii "I") IntLine refl)
+      (λ e. by-letter letter (ascii "I") _ _ call Written e (no-operand (ascii "I") AskInt refl)
       (λ e. by-letter letter (ascii "Z") _ _ call Written e (no-operand (ascii "Z") Reset refl)
       (λ e. absurd (refused-not-ok _ call e)))))))))
 
 written-more : (letter first second : ℕ) (rest : List ℕ) (r : Result Call FormatRefusal) → call-of letter first second ≡ r
-    → second < 256 → (isOk r && well-formed rest) ≡ true → (well-formed rest ≡ true → calls-bytes (calls-in rest) ≡ rest)
-    → calls-bytes (followed-by r (calls-in rest)) ≡ letter ∷ first ∷ second ∷ rest
+    → second < 256 → (isOk r && well-formed rest) ≡ true → (well-formed rest ≡ true → bytes-of-calls (calls-in rest) ≡ rest)
+    → bytes-of-calls (followed-by r (calls-in rest)) ≡ letter ∷ first ∷ second ∷ rest
 written-more letter first second rest (Ok call) e small formed more =
     λ i. written-call letter first second call small e i ++ more formed i
 written-more letter first second rest (Err why) e small formed more = absurd (clash formed)
 
-written-calls : (bytes : List ℕ) → All (λ b. b < 256) bytes → well-formed bytes ≡ true → calls-bytes (calls-in bytes) ≡ bytes
+written-calls : (bytes : List ℕ) → All (λ b. b < 256) bytes → well-formed bytes ≡ true → bytes-of-calls (calls-in bytes) ≡ bytes
 unfolding well-formed calls-in
 written-calls [] small formed = refl
 written-calls (letter ∷ []) small formed = absurd (clash formed)
@@ -221,7 +221,7 @@ written-session [] small calls e = absurd (refused-not-ok _ calls e)
 written-session (low ∷ []) small calls e = absurd (refused-not-ok _ calls e)
 written-session (low ∷ high ∷ bytes) small calls e =
     let a : Accepted (low + 256 * high) bytes calls = accepted-counted (low + 256 * high) bytes calls e in
-    let same : calls-bytes calls ≡ bytes = ap calls-bytes (sym (a .read)) ∙ written-calls bytes (small .1 .1) (a .formed) in
+    let same : bytes-of-calls calls ≡ bytes = ap bytes-of-calls (sym (a .read)) ∙ written-calls bytes (small .1 .1) (a .formed) in
     let count : length calls ≡ low + 256 * high = omega (arith, ap length same, length-calls calls, a .long) in
     let lower : length calls % 256 ≡ low = omega (arith, small .0) in
     let upper : length calls / 256 ≡ high = omega (arith, small .0) in

@@ -1,4 +1,4 @@
--- A session's bytes by their places, as a slice pattern takes them apart. Assumes nothing.
+-- A session's bytes by their places, as a slice pattern takes them apart.
 use mathlib.Core.Path.{_≡_, refl, sym, ap, subst, _∙_}
 use mathlib.Core.Bool.{true, false, _&&_}
 use mathlib.Core.List.{List, [], _∷_}

@@ -1,4 +1,4 @@
--- The number of each refusal of the reader, and its words. Assumes nothing.
+-- The number of each refusal of the reader, and its words.
 use mathlib.Core.List.{List}
 use Prim.Native.Nat.{ℕ}
 use lib.Chars.{codes}

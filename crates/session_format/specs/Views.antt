@@ -1,4 +1,4 @@
--- What the reader's values say by the definitions of reading. Assumes nothing.
+-- What the reader's values say by the definitions of reading.
 use mathlib.Core.Path.{_≡_}
 use mathlib.Core.List.{List, [], _∷_}
 use Prim.Native.Nat.{ℕ, _<_}

@@ -13,7 +13,7 @@ pub enum Call {
     Acknowledge,
     Fetch { byte: u8 },
     // Asks whether the interrupt line INT is pulled.
-    IntLine,
+    AskInt,
     Reset,
 }
 
@@ -33,7 +33,7 @@ impl Call {
             (b'C', number, 0) => Ok(Call::Clocks { number }),
             (b'A', 0, 0) => Ok(Call::Acknowledge),
             (b'F', byte, 0) => Ok(Call::Fetch { byte }),
-            (b'I', 0, 0) => Ok(Call::IntLine),
+            (b'I', 0, 0) => Ok(Call::AskInt),
             (b'Z', 0, 0) => Ok(Call::Reset),
             _ => Err(FormatRefusal::MalformedCall),
         }
@@ -50,7 +50,7 @@ impl Call {
             Call::Clocks { number } => [b'C', number, 0],
             Call::Acknowledge => [b'A', 0, 0],
             Call::Fetch { byte } => [b'F', byte, 0],
-            Call::IntLine => [b'I', 0, 0],
+            Call::AskInt => [b'I', 0, 0],
             Call::Reset => [b'Z', 0, 0],
         }
     }

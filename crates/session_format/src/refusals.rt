@@ -15,7 +15,7 @@ pub enum FormatRefusal {
 }
 
 impl FormatRefusal {
-    // The number that the documents and the programs give the refusal.
+    // The number of the refusal in docs/SESSIONS.md.
     pub fn number(self) -> u8
         ensures { λ r. ⌜ r ≡ number-of self ⌝ }
     {

@@ -1,4 +1,4 @@
--- The line feeds of a listing are those that end its lines. Assumes nothing.
+-- The line feeds of a listing are those that end its lines.
 use mathlib.Core.Bool.{Bool, true, false, cond}
 use mathlib.Core.List.{List, [], _∷_, _++_, append-nil}
 use mathlib.Core.Path.{_≡_, refl, sym, ap, _∙_}
@@ -18,7 +18,7 @@ use Rattle.session_format.specs.Encoding.{call-bytes}
 use Rattle.session_format.specs.Reading.{session-of}
 use Rattle.session_format.specs.Refusals.{number-of, reason}
 use Rattle.session_format.specs.declared.encoding.Call.{Call}
-use Rattle.session_format.specs.declared.encoding.Call.the-variants.{Write, Read, Line, Clocks, Acknowledge, Fetch, IntLine, Reset}
+use Rattle.session_format.specs.declared.encoding.Call.the-variants.{Write, Read, Line, Clocks, Acknowledge, Fetch, AskInt, Reset}
 use Rattle.session_format.specs.declared.refusals.FormatRefusal.{FormatRefusal}
 use Rattle.session_format.specs.declared.refusals.FormatRefusal.the-variants.{EndsInsideCount, TooManyCalls, EndsInsideCall, BytesLeftOver, MalformedCall}
 use Rattle.session_listing.specs.Hex.{hex-digit, hex-byte, hex-word}
@@ -73,7 +73,7 @@ feeds-operation (Line port line high) =
 feeds-operation (Clocks number) = feeds-number number
 feeds-operation Acknowledge = refl
 feeds-operation (Fetch byte) = feeds-hex byte (codes "h")
-feeds-operation IntLine = refl
+feeds-operation AskInt = refl
 feeds-operation Reset = refl
 
 feeds-call-line : (offset : ℕ) (call : Call) → line-feeds (call-line offset call) ≡ 0

@@ -1,4 +1,4 @@
--- A listing that grows call by call. Assumes nothing.
+-- A listing that grows call by call.
 use mathlib.Core.List.{List, [], _∷_, _++_, append-assoc, append-nil}
 use mathlib.Core.Path.{_≡_, sym, ap, _∙_}
 use native.Mathlib.Omega.{arith}

@@ -1,4 +1,4 @@
--- Numbers as hexadecimal digits, in capitals and with leading zeros. Assumes nothing.
+-- Numbers as hexadecimal digits, in capitals and with leading zeros.
 use mathlib.Core.Bool.{cond}
 use mathlib.Core.List.{List, [], _∷_, _++_}
 use Prim.Native.Nat.{ℕ, _+_, _/_, _%_}

@@ -1,4 +1,4 @@
--- What holds of every listing. Assumes nothing.
+-- What holds of every listing.
 use mathlib.Core.Bool.{cond}
 use mathlib.Core.List.{List, [], _∷_}
 use mathlib.Core.Path.{_≡_}

@@ -1,4 +1,4 @@
--- The lines of a listing, without their line feeds. Assumes nothing.
+-- The lines of a listing, without their line feeds.
 use mathlib.Core.Bool.{Bool, cond}
 use mathlib.Core.List.{List, _++_}
 use Prim.Native.Nat.{ℕ, _/_, _%_}
@@ -8,7 +8,7 @@ use Rattle.std.specs.Written.{decimal}
 use Rattle.session_format.specs.Encoding.{call-bytes}
 use Rattle.session_format.specs.Refusals.{number-of, reason}
 use Rattle.session_format.specs.declared.encoding.Call.{Call}
-use Rattle.session_format.specs.declared.encoding.Call.the-variants.{Write, Read, Line, Clocks, Acknowledge, Fetch, IntLine, Reset}
+use Rattle.session_format.specs.declared.encoding.Call.the-variants.{Write, Read, Line, Clocks, Acknowledge, Fetch, AskInt, Reset}
 use Rattle.session_format.specs.declared.refusals.FormatRefusal.{FormatRefusal}
 use Rattle.session_listing.specs.Hex.{hex-byte, hex-word}
 
@@ -24,7 +24,7 @@ operation (Line port line high) =
 operation (Clocks number) = codes "clocks       " ++ decimal number
 operation Acknowledge = codes "acknowledge"
 operation (Fetch byte) = codes "fetch        byte " ++ hex-byte byte ++ codes "h"
-operation IntLine = codes "int"
+operation AskInt = codes "int"
 operation Reset = codes "reset"
 
 -- where the call stands in the session, its three bytes, and what it asks for

@@ -1,4 +1,4 @@
--- The listing of a session's bytes. Assumes nothing.
+-- The listing of a session's bytes.
 use mathlib.Core.List.{List, [], _∷_, _++_}
 use Prim.Native.Nat.{ℕ, _+_}
 use lib.ListN.{length}

@@ -39,7 +39,7 @@ pub impl fmt::Display for Operation as OperationDisplay {
                 let byte = HexByte(byte);
                 write!(f, "fetch        byte {byte}h")
             }
-            Call::IntLine => write!(f, "int"),
+            Call::AskInt => write!(f, "int"),
             Call::Reset => write!(f, "reset"),
         }
     }

@@ -246,7 +246,7 @@ fn eleven_calls() -> Result<(), Fail> {
             line: 7,
             high: true,
         },
-        Call::IntLine,
+        Call::AskInt,
         Call::Acknowledge,
         Call::Fetch { byte: 0xED },
         Call::Fetch { byte: 0x4D },
