@@ -1,3 +1,4 @@
 pub mod Shapes
-pub mod RoundTrip
+pub mod WrittenIsRead
+pub mod ReadIsWritten
 pub mod Fronts

@@ -4,19 +4,17 @@ use mathlib.Core.Bool.{true, false, _&&_}
 use mathlib.Core.List.{List, [], _∷_}
 use Prim.Native.Nat.{ℕ, _+_, _*_, _-_, _≤_, _<_}
 use native.Mathlib.Omega.{arith}
-use borrow.Author.Tests.{ne-eqb, clash}
+use borrow.Author.Tests.{ne-eqb}
 use lib.ListN.{length, getD, take, drop}
 use Rattle.std.proofs.shelf.Lists.{take-rest}
-use Rattle.std.specs.Options.{isSome}
 use Rattle.std.specs.Results.{isOk}
-use Rattle.std.specs.declared.option.Option.{Option}
 use Rattle.std.specs.declared.result.Result.{Result}
 use Rattle.std.specs.declared.result.Result.the-variants.{Ok, Err}
 use Rattle.session_format.specs.declared.encoding.Call.{Call}
 use Rattle.session_format.specs.declared.refusals.FormatRefusal.{FormatRefusal}
 use Rattle.session_format.specs.declared.refusals.FormatRefusal.the-variants.{EndsInsideCount}
 use Rattle.session_format.specs.Encoding.{call-of}
-use Rattle.session_format.specs.Views.{Begins, Begins-none, next-call}
+use Rattle.session_format.specs.Views.{Begins, Begins-none}
 use Rattle.session_format.specs.Reading.{well-formed, calls-in, followed-by, counted, session-of}
 
 -- the bytes after the first n, as a slice pattern's rest has them
@@ -73,22 +71,3 @@ begins-short [] h = record { calls = refl; formed = refl }
 begins-short (letter ∷ []) h = record { calls = refl; formed = refl }
 begins-short (letter ∷ first ∷ []) h = record { calls = refl; formed = refl }
 begins-short (letter ∷ first ∷ second ∷ rest) h = absurd (omega arith)
-
-few-more : (r : Result Call FormatRefusal) (calls : List Call) (n : ℕ) → 3 * length calls ≤ n → 3 * length (followed-by r calls) ≤ 3 + n
-few-more (Ok call) calls n h = omega arith
-few-more (Err why) calls n h = omega arith
-
--- three bytes or more for each call
-pub few-calls : (bytes : List ℕ) → 3 * length (calls-in bytes) ≤ length bytes
-unfolding calls-in
-few-calls [] = omega arith
-few-calls (letter ∷ []) = omega arith
-few-calls (letter ∷ first ∷ []) = omega arith
-few-calls (letter ∷ first ∷ second ∷ rest) =
-    let more : 3 * length (followed-by (call-of letter first second) (calls-in rest)) ≤ 3 + length rest =
-    few-more (call-of letter first second) (calls-in rest) (length rest) (few-calls rest) in
-    omega arith
-
-pub some-left : (r : Option Call) (calls : List Call) → r ≡ next-call calls → true ≡ isSome r → 0 < length calls
-some-left r [] e some = absurd (let z : true ≡ false = some ∙ ap isSome e in clash (sym z))
-some-left r (call ∷ calls) e some = omega arith

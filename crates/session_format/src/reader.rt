@@ -1,10 +1,9 @@
 // Reads a session: the caller's bytes as calls, or the refusal.
 ghost use mathlib.Core.Path.{_≡_};
-ghost use Prim.Native.Nat.{_+_, _*_, _≤_};
-ghost use lib.ListN.{length};
+ghost use Prim.Native.Nat.{_+_, _*_};
 ghost use Rattle.std.specs.Vec.{made};
 ghost use Rattle.session_format.specs.Reading.{session-of, counted, well-formed};
-ghost use Rattle.session_format.specs.Laws.{Reads-what-is-written, Writes-what-was-read, Front-decides};
+ghost use Rattle.session_format.specs.Laws.{Holdable, Reads-what-is-written, Writes-what-was-read, Front-decides};
 ghost use Rattle.session_format.specs.Views.{calls-left, answer};
 use crate::refusals::FormatRefusal;
 use crate::view::Calls;
@@ -13,10 +12,10 @@ use crate::view::split_first;
 // The most calls that a session holds.
 const MOST_CALLS: u16 = 4096;
 
-// The calls of a session, or why the bytes are none. It calls and writes nothing.
+// The calls of a session, or why the bytes are none. It makes no call on a rack and changes no byte.
 pub fn read_session(bytes: &[u8]) -> Result<Calls<'_>, FormatRefusal>
     ensures answer { λ r. ⌜ answer r ≡ session-of (now (bytes .entry)) ⌝ }
-    ensures at_most_4096 { λ r. ⌜ made r (λ calls. length (calls-left calls) ≤ 4096) ⌝ }
+    ensures holdable { λ r. ⌜ made r (λ calls. Holdable (calls-left calls)) ⌝ }
     ensures written_is_read { λ _. ⌜ Reads-what-is-written ⌝ }
     ensures read_is_written { λ _. ⌜ Writes-what-was-read (now (bytes .entry)) ⌝ }
     ensures front_decides { λ _. ⌜ Front-decides (now (bytes .entry)) ⌝ }

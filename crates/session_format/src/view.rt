@@ -1,26 +1,22 @@
 // A view of the caller's bytes as the calls that they hold.
 ghost use mathlib.Core.Path.{_≡_};
 ghost use lib.ListN.{length};
+ghost use Rattle.session_format.specs.Reading.{calls-in};
 ghost use Rattle.session_format.specs.Views.{calls-left, next-call, later-calls, Splits};
 use crate::encoding::Call;
 
-// The calls that are still to come, in order. A view that the reader gives holds nothing but well-formed calls.
-#[derive(Clone, Copy)]
+// The calls that are still to come, in order.
+#[derive(Drop)]
 pub struct Calls<'a> {
     pub(crate) bytes: &'a [u8],
 }
 
 impl Calls<'_> {
     // How many calls are still to come.
-    pub fn len(self) -> usize
-        ensures { λ r. ⌜ r ≡ length (calls-left (self .entry)) ⌝ }
+    pub fn len(&self) -> usize
+        ensures { λ r. ⌜ r ≡ length (calls-left (now (self .entry))) ⌝ }
     {
-        let mut left = self;
-        let mut count = 0;
-        while left.next().is_some() {
-            count += 1;
-        }
-        count
+        count_calls(self.bytes)
     }
 }
 
@@ -38,6 +34,18 @@ pub impl Iterator for Calls<'_> as CallsIterator {
         self.bytes = rest;
         Some(call)
     }
+}
+
+fn count_calls(bytes: &[u8]) -> usize
+    ensures { λ r. ⌜ r ≡ length (calls-in (now (bytes .entry))) ⌝ }
+{
+    let mut left = bytes;
+    let mut count = 0;
+    while let Some((_, rest)) = split_first(left) {
+        left = rest;
+        count += 1;
+    }
+    count
 }
 
 // The call that the bytes begin with, and the bytes after it; none where they end or the call is malformed.

@@ -3,8 +3,9 @@ use borrow.Author.Needs.{needs}
 use Rattle.session_format.specs.Views.{answer}
 use Rattle.session_format.specs.Reading.{counted, session-of}
 use Rattle.session_format.proofs.Fronts.{front-decides}
-use Rattle.session_format.proofs.RoundTrip.{few-answered, reads-what-is-written, writes-what-was-read}
+use Rattle.session_format.proofs.ReadIsWritten.{holdable-answer, writes-what-was-read}
 use Rattle.session_format.proofs.Shapes.{session-by-places, session-short, after}
+use Rattle.session_format.proofs.WrittenIsRead.{reads-what-is-written}
 use Rattle.session_format.proofs.reader.read_session.Needs as need
 
 pub returns : need.returns
@@ -15,7 +16,7 @@ returns c =
     ∙ sym (session-by-places (c .args .bytes .now) (search needs)) in
     record {
       answer = same;
-      at-most-4096 = few-answered (c .read-calls .result) (c .args .bytes .now) same;
+      holdable = holdable-answer (c .args .bytes .now) (c .typed .bytes) (c .read-calls .result) same;
       written-is-read = reads-what-is-written;
       read-is-written = writes-what-was-read (c .args .bytes .now) (c .typed .bytes);
       front-decides = front-decides (c .args .bytes .now);
@@ -24,7 +25,7 @@ returns c =
 pub returns-in-rest : need.returns-in-rest
 returns-in-rest c = record {
   answer = sym (session-short (c .args .bytes .now) (search needs));
-  at-most-4096 = tt;
+  holdable = tt;
   written-is-read = reads-what-is-written;
   read-is-written = writes-what-was-read (c .args .bytes .now) (c .typed .bytes);
   front-decides = front-decides (c .args .bytes .now);
