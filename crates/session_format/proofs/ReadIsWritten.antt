@@ -93,7 +93,7 @@ module _ (letter first second : ℕ) where
       → well-formed-if (eqb (bits-6-to-4 second) 0) (Line first (bits-3-to-0 second) (bit-7 second)) ≡ Ok call → Writes call
   line-operands small call l e =
       let f : (eqb (bits-6-to-4 second) 0 ≡ true) × (Line first (bits-3-to-0 second) (bit-7 second) ≡ call) =
-        formed-call (eqb (bits-6-to-4 second) 0) (Line first (bits-3-to-0 second) (bit-7 second)) call e in
+      formed-call (eqb (bits-6-to-4 second) 0) (Line first (bits-3-to-0 second) (bit-7 second)) call e in
       subst Writes (f .1) (record { bytes = λ i. l i ∷ first ∷ line-operand-is second small (eqb-true _ _ (f .0)) i ∷ []; holds = omega arith })
 
   writes-call : (call : Call) → second < 256 → call-of letter first second ≡ Ok call → Writes call

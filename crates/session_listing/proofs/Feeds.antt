@@ -21,8 +21,8 @@ use Rattle.session_format.specs.declared.encoding.Call.{Call}
 use Rattle.session_format.specs.declared.encoding.Call.the-variants.{Write, Read, Line, Clocks, Acknowledge, Fetch, AskInt, Reset}
 use Rattle.session_format.specs.declared.refusals.FormatRefusal.{FormatRefusal}
 use Rattle.session_format.specs.declared.refusals.FormatRefusal.the-variants.{EndsInsideCount, TooManyCalls, EndsInsideCall, BytesLeftOver, MalformedCall}
-use Rattle.session_listing.specs.Hex.{hex-digit, hex-byte, hex-word}
-use Rattle.session_listing.specs.Laws.{line-feeds, lines-due, One-line-each}
+use Rattle.session_listing.specs.Hex.{hex-digit, hex-byte}
+use Rattle.session_listing.specs.Laws.{line-feeds, feeds-due, Line-feed-each}
 use Rattle.session_listing.specs.Lines.{level, operation, call-line, count-line, refusal-line}
 use Rattle.session_listing.specs.Listing.{ended, call-lines, listed}
 
@@ -128,12 +128,12 @@ feeds-call-lines offset [] = refl
 feeds-call-lines offset (call ∷ calls) =
     feeds-ended (call-line offset call) (call-lines (offset + 3) calls) (feeds-call-line offset call) ∙ ap suc (feeds-call-lines (offset + 3) calls)
 
-feeds-listed : (r : Result (List Call) FormatRefusal) → line-feeds (listed r) ≡ lines-due r
+feeds-listed : (r : Result (List Call) FormatRefusal) → line-feeds (listed r) ≡ feeds-due r
 feeds-listed (Ok calls) =
     feeds-ended (count-line (length calls)) (call-lines 2 calls) (feeds-count-line (length calls))
     ∙ omega (arith, feeds-call-lines 2 calls)
 feeds-listed (Err refusal) =
     ap line-feeds (sym (append-nil (ended (refusal-line refusal)))) ∙ feeds-ended (refusal-line refusal) [] (feeds-refusal-line refusal)
 
-pub one-line-each : (bytes : List ℕ) → One-line-each bytes
-one-line-each bytes = feeds-listed (session-of bytes)
+pub line-feed-each : (bytes : List ℕ) → Line-feed-each bytes
+line-feed-each bytes = feeds-listed (session-of bytes)

@@ -12,15 +12,16 @@ use Rattle.session_format.specs.declared.encoding.Call.{Call}
 use Rattle.session_format.specs.declared.refusals.FormatRefusal.{FormatRefusal}
 use Rattle.session_listing.specs.Listing.{listing-of}
 
--- how many lines a text has that ends each with a line feed
+-- how many line feeds a text has
 abbrev pub line-feeds : List ℕ → ℕ
 line-feeds [] = 0
 line-feeds (byte ∷ bytes) = cond (eqb byte 10) (suc (line-feeds bytes)) (line-feeds bytes)
 
--- a line for the count and one for each call, or one for the refusal
-abbrev pub lines-due : Result (List Call) FormatRefusal → ℕ
-lines-due (Ok calls) = 1 + length calls
-lines-due (Err refusal) = 1
+-- one for the count and one for each call, or one for the refusal
+abbrev pub feeds-due : Result (List Call) FormatRefusal → ℕ
+feeds-due (Ok calls) = 1 + length calls
+feeds-due (Err refusal) = 1
 
-abbrev pub One-line-each : List ℕ → Type 0
-One-line-each bytes = line-feeds (listing-of bytes) ≡ lines-due (session-of bytes)
+-- A listing has one line feed for the count and one for each call, or one for the refusal, and no other.
+abbrev pub Line-feed-each : List ℕ → Type 0
+Line-feed-each bytes = line-feeds (listing-of bytes) ≡ feeds-due (session-of bytes)

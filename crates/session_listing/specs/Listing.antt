@@ -1,4 +1,4 @@
--- The listing of a session's bytes.
+-- The whole text of a listing.
 use mathlib.Core.List.{List, [], _∷_, _++_}
 use Prim.Native.Nat.{ℕ, _+_}
 use lib.ListN.{length}
@@ -22,9 +22,11 @@ call-lines offset (call ∷ calls) = ended (call-line offset call) ++ call-lines
 abbrev pub listed-calls : List Call → List ℕ
 listed-calls calls = ended (count-line (length calls)) ++ call-lines 2 calls
 
+-- the listing of what the reader answers
 abbrev pub listed : Result (List Call) FormatRefusal → List ℕ
 listed (Ok calls) = listed-calls calls
 listed (Err refusal) = ended (refusal-line refusal)
 
+-- the listing of a session's bytes
 abbrev pub listing-of : List ℕ → List ℕ
 listing-of bytes = listed (session-of bytes)

@@ -14,9 +14,9 @@ fn digit(n: u8) -> u8
 }
 
 #[derive(Clone, Copy)]
-pub struct HexByte(pub u8);
+pub(crate) struct HexByte(pub(crate) u8);
 
-pub impl fmt::Display for HexByte as HexByteDisplay {
+pub(crate) impl fmt::Display for HexByte as HexByteDisplay {
     ghost shown = { λ x. Some (hex-byte (x .0)) };
 
     fn fmt<W: fmt::Write>(&self, f: &mut fmt::Formatter<W>) -> fmt::Result {
@@ -27,9 +27,9 @@ pub impl fmt::Display for HexByte as HexByteDisplay {
 }
 
 #[derive(Clone, Copy)]
-pub struct HexWord(pub u16);
+pub(crate) struct HexWord(pub(crate) u16);
 
-pub impl fmt::Display for HexWord as HexWordDisplay {
+pub(crate) impl fmt::Display for HexWord as HexWordDisplay {
     ghost shown = { λ x. Some (hex-word (x .0)) };
 
     fn fmt<W: fmt::Write>(&self, f: &mut fmt::Formatter<W>) -> fmt::Result {

@@ -12,9 +12,9 @@ use std::fmt;
 
 // What a call asks for: its name, and its operands in a column of their own.
 #[derive(Clone, Copy)]
-pub struct Operation(pub Call);
+pub(crate) struct Operation(pub(crate) Call);
 
-pub impl fmt::Display for Operation as OperationDisplay {
+pub(crate) impl fmt::Display for Operation as OperationDisplay {
     ghost shown = { λ x. Some (operation (x .0)) };
 
     fn fmt<W: fmt::Write>(&self, f: &mut fmt::Formatter<W>) -> fmt::Result {
@@ -63,12 +63,12 @@ impl fmt::Display for Level as LevelDisplay {
 
 // A call, where it stands in the session, and its three bytes.
 #[derive(Clone, Copy)]
-pub struct CallLine {
-    pub offset: u16,
-    pub call: Call,
+pub(crate) struct CallLine {
+    pub(crate) offset: u16,
+    pub(crate) call: Call,
 }
 
-pub impl fmt::Display for CallLine as CallLineDisplay {
+pub(crate) impl fmt::Display for CallLine as CallLineDisplay {
     ghost shown = { λ x. Some (call-line (x .offset) (x .call)) };
 
     fn fmt<W: fmt::Write>(&self, f: &mut fmt::Formatter<W>) -> fmt::Result {
@@ -84,9 +84,9 @@ pub impl fmt::Display for CallLine as CallLineDisplay {
 
 // The count of a session's calls, and its two bytes.
 #[derive(Clone, Copy)]
-pub struct CountLine(pub u16);
+pub(crate) struct CountLine(pub(crate) u16);
 
-pub impl fmt::Display for CountLine as CountLineDisplay {
+pub(crate) impl fmt::Display for CountLine as CountLineDisplay {
     ghost shown = { λ x. Some (count-line (x .0)) };
 
     fn fmt<W: fmt::Write>(&self, f: &mut fmt::Formatter<W>) -> fmt::Result {
@@ -99,9 +99,9 @@ pub impl fmt::Display for CountLine as CountLineDisplay {
 
 // A refusal, by its number and in words.
 #[derive(Clone, Copy)]
-pub struct RefusalLine(pub FormatRefusal);
+pub(crate) struct RefusalLine(pub(crate) FormatRefusal);
 
-pub impl fmt::Display for RefusalLine as RefusalLineDisplay {
+pub(crate) impl fmt::Display for RefusalLine as RefusalLineDisplay {
     ghost shown = { λ x. Some (refusal-line (x .0)) };
 
     fn fmt<W: fmt::Write>(&self, f: &mut fmt::Formatter<W>) -> fmt::Result {

@@ -7,7 +7,7 @@ ghost use Rattle.std.specs.Of.String.{string-bytes};
 ghost use Rattle.std.specs.Vec.{made};
 ghost use Rattle.session_format.specs.Views.{calls-left};
 ghost use Rattle.session_listing.specs.Listing.{call-lines, listed-calls, listing-of, ended};
-ghost use Rattle.session_listing.specs.Laws.{One-line-each};
+ghost use Rattle.session_listing.specs.Laws.{Line-feed-each};
 ghost use Rattle.session_listing.specs.Lines.{call-line, refusal-line};
 use crate::lines::CallLine;
 use crate::lines::CallLineDisplay;
@@ -25,7 +25,7 @@ use std::alloc::Global;
 // Each line of the session, or the line of its refusal, with a line feed after each.
 pub fn listing(heap: Global, bytes: &[u8]) -> Result<String, AllocError>
     ensures text { λ r. ⌜ made r (λ text. string-bytes text ≡ listing-of (now (bytes .entry))) ⌝ }
-    ensures one_line_each { λ _. ⌜ One-line-each (now (bytes .entry)) ⌝ }
+    ensures line_feed_each { λ _. ⌜ Line-feed-each (now (bytes .entry)) ⌝ }
 {
     match read_session(bytes) {
         Ok(calls) => list_session(heap, calls),
@@ -54,9 +54,8 @@ fn list_calls(text: &mut String, calls: Calls<'_>) -> Result<(), AllocError>
     requires { ⌜ length (calls-left calls) ≤ 4096 ⌝ }
     ensures { λ r. ⌜ made r (λ _. string-bytes (now (text .exit)) ≡ string-bytes (now (text .entry)) ++ call-lines 2 (calls-left (calls .entry))) ⌝ }
 {
-    let mut left = calls;
     let mut offset = 2;
-    while let Some(call) = left.next() {
+    for call in calls {
         add_line(text, CallLine { offset, call })?;
         offset += 3;
     }

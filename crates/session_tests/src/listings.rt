@@ -1,4 +1,5 @@
 // The text of listings.
+use crate::building::session_of;
 use session_listing::listing;
 use std::alloc::Global;
 use std::test::*;
@@ -30,6 +31,17 @@ fn each_kind_of_call(rt: LibcRuntime) -> Result<(), Fail> {
 #[test]
 fn the_empty_session(rt: LibcRuntime) -> Result<(), Fail> {
     check_listing(rt.alloc(), b"\x00\x00", "0000  00 00     count        0\n")
+}
+
+#[test]
+fn both_ends_of_the_longest_listing(rt: LibcRuntime) -> Result<(), Fail> {
+    let heap = rt.alloc();
+    let text = listing(heap, session_of(heap, 4096, b'Z')?.as_slice())?;
+    check(text.as_str().starts_with("0000  00 10     count        4096\n0002  5A 00 00  reset\n"))?;
+    check(
+        text.as_str()
+            .ends_with("\n2FFC  5A 00 00  reset\n2FFF  5A 00 00  reset\n"),
+    )
 }
 
 #[test]

@@ -1,215 +1,117 @@
 // What the reader answers: a session call by call, and each refusal at its edge.
+use crate::building::session_of;
 use session_format::Call;
 use session_format::CallsIterator;
+use session_format::FormatRefusal;
 use session_format::encoding::CallDebug;
 use session_format::encoding::CallPartialEq;
 use session_format::read_session;
 use session_format::refusals::FormatRefusalDebug;
-use std::alloc::AllocError;
-use std::alloc::Global;
+use session_format::refusals::FormatRefusalPartialEq;
 use std::test::*;
 
-// The number of the refusal, or 0 for a session.
-fn refused(bytes: &[u8]) -> u8 {
+const ACCEPTED: Option<FormatRefusal> = None;
+
+const ENDS_INSIDE_COUNT: Option<FormatRefusal> = Some(FormatRefusal::EndsInsideCount);
+
+const TOO_MANY_CALLS: Option<FormatRefusal> = Some(FormatRefusal::TooManyCalls);
+
+const ENDS_INSIDE_CALL: Option<FormatRefusal> = Some(FormatRefusal::EndsInsideCall);
+
+const BYTES_LEFT_OVER: Option<FormatRefusal> = Some(FormatRefusal::BytesLeftOver);
+
+const MALFORMED_CALL: Option<FormatRefusal> = Some(FormatRefusal::MalformedCall);
+
+fn refusal_of(bytes: &[u8]) -> Option<FormatRefusal> {
     match read_session(bytes) {
-        Ok(_) => 0,
-        Err(refusal) => refusal.number(),
+        Ok(_) => None,
+        Err(refusal) => Some(refusal),
     }
 }
 
-#[derive(Clone, Copy)]
-struct Case<'a> {
-    bytes: &'a [u8],
-    refusal: u8,
-}
-
-fn check_all(cases: &[Case<'_>]) -> Result<(), Fail> {
-    for case in cases {
-        check_eq(refused(case.bytes), case.refusal)?;
+fn check_all(cases: &[(&[u8], Option<FormatRefusal>)]) -> Result<(), Fail> {
+    for (bytes, expected) in cases {
+        check_eq(refusal_of(bytes), *expected)?;
     }
     Ok(())
 }
 
 #[test]
-fn bytes_that_end_inside_the_count_or_a_call() -> Result<(), Fail> {
+fn edges_of_the_length() -> Result<(), Fail> {
     check_all(
         &[
-            Case {
-                bytes: b"",
-                refusal: 8,
-            },
-            Case {
-                bytes: b"\x00",
-                refusal: 8,
-            },
-            Case {
-                bytes: b"\x00\x00",
-                refusal: 0,
-            },
-            Case {
-                bytes: b"\x01\x00",
-                refusal: 8,
-            },
-            Case {
-                bytes: b"\x01\x00A",
-                refusal: 8,
-            },
-            Case {
-                bytes: b"\x01\x00A\x00",
-                refusal: 8,
-            },
-            Case {
-                bytes: b"\x01\x00A\x00\x00",
-                refusal: 0,
-            },
-            Case {
-                bytes: b"\x02\x00A\x00\x00",
-                refusal: 8,
-            },
+            (b"", ENDS_INSIDE_COUNT),
+            (b"\x00", ENDS_INSIDE_COUNT),
+            (b"\x00\x00", ACCEPTED),
+            (b"\x00\x00\x00", BYTES_LEFT_OVER),
+            (b"\x01\x00", ENDS_INSIDE_CALL),
+            (b"\x01\x00A", ENDS_INSIDE_CALL),
+            (b"\x01\x00A\x00", ENDS_INSIDE_CALL),
+            (b"\x01\x00A\x00\x00", ACCEPTED),
+            (b"\x01\x00A\x00\x00\x00", BYTES_LEFT_OVER),
+            (b"\x01\x00A\x00\x00A\x00\x00", BYTES_LEFT_OVER),
+            (b"\x02\x00A\x00\x00", ENDS_INSIDE_CALL),
+            // 256 calls, and not the one that the count's bytes would say the other way round
+            (b"\x00\x01A\x00\x00", ENDS_INSIDE_CALL),
         ],
     )
 }
 
 #[test]
-fn counts_and_bytes_left_over() -> Result<(), Fail> {
+fn operands_that_are_well_formed_and_malformed() -> Result<(), Fail> {
     check_all(
         &[
-            Case {
-                bytes: b"\x00\x00\x00",
-                refusal: 10,
-            },
-            Case {
-                bytes: b"\x01\x00A\x00\x00\x00",
-                refusal: 10,
-            },
-            // 4,096 calls that are missing, and 4,097
-            Case {
-                bytes: b"\x00\x10",
-                refusal: 8,
-            },
-            Case {
-                bytes: b"\x01\x10",
-                refusal: 9,
-            },
-            Case {
-                bytes: b"\xFF\xFF",
-                refusal: 9,
-            },
-            // a count with its bytes the other way round: 256 calls, not 1
-            Case {
-                bytes: b"\x00\x01A\x00\x00",
-                refusal: 8,
-            },
+            (b"\x01\x00W\xFF\xFF", ACCEPTED),
+            (b"\x01\x00R\xFF\x00", ACCEPTED),
+            (b"\x01\x00R\x05\x01", MALFORMED_CALL),
+            (b"\x01\x00L\xFF\x0F", ACCEPTED),
+            (b"\x01\x00L\xFF\x8F", ACCEPTED),
+            (b"\x01\x00L\x00\x10", MALFORMED_CALL),
+            (b"\x01\x00L\x00\x20", MALFORMED_CALL),
+            (b"\x01\x00L\x00\x40", MALFORMED_CALL),
+            (b"\x01\x00L\x00\xC0", MALFORMED_CALL),
+            (b"\x01\x00C\x00\x00", ACCEPTED),
+            (b"\x01\x00C\xFF\x00", ACCEPTED),
+            (b"\x01\x00C\x05\x01", MALFORMED_CALL),
+            (b"\x01\x00A\x01\x00", MALFORMED_CALL),
+            (b"\x01\x00A\x00\x01", MALFORMED_CALL),
+            (b"\x01\x00F\xFF\x00", ACCEPTED),
+            (b"\x01\x00F\x05\x01", MALFORMED_CALL),
+            (b"\x01\x00I\x00\x00", ACCEPTED),
+            (b"\x01\x00I\x01\x00", MALFORMED_CALL),
+            (b"\x01\x00I\x00\x01", MALFORMED_CALL),
+            (b"\x01\x00Z\x00\x00", ACCEPTED),
+            (b"\x01\x00Z\x01\x00", MALFORMED_CALL),
+            (b"\x01\x00Z\x00\x01", MALFORMED_CALL),
         ],
     )
 }
 
 #[test]
-fn malformed_calls() -> Result<(), Fail> {
+fn letters_that_are_no_call() -> Result<(), Fail> {
     check_all(
         &[
-            Case {
-                bytes: b"\x01\x00B\x00\x00",
-                refusal: 11,
-            },
-            Case {
-                bytes: b"\x01\x00w\x00\x00",
-                refusal: 11,
-            },
-            Case {
-                bytes: b"\x01\x00\x00\x00\x00",
-                refusal: 11,
-            },
-            Case {
-                bytes: b"\x01\x00R\x05\x01",
-                refusal: 11,
-            },
-            Case {
-                bytes: b"\x01\x00C\x05\x01",
-                refusal: 11,
-            },
-            Case {
-                bytes: b"\x01\x00F\x05\x01",
-                refusal: 11,
-            },
-            Case {
-                bytes: b"\x01\x00A\x01\x00",
-                refusal: 11,
-            },
-            Case {
-                bytes: b"\x01\x00A\x00\x01",
-                refusal: 11,
-            },
-            Case {
-                bytes: b"\x01\x00I\x01\x00",
-                refusal: 11,
-            },
-            Case {
-                bytes: b"\x01\x00I\x00\x01",
-                refusal: 11,
-            },
-            Case {
-                bytes: b"\x01\x00Z\x01\x00",
-                refusal: 11,
-            },
-            Case {
-                bytes: b"\x01\x00Z\x00\x01",
-                refusal: 11,
-            },
-            Case {
-                bytes: b"\x01\x00L\x00\x0F",
-                refusal: 0,
-            },
-            Case {
-                bytes: b"\x01\x00L\x00\x8F",
-                refusal: 0,
-            },
-            Case {
-                bytes: b"\x01\x00L\x00\x10",
-                refusal: 11,
-            },
-            Case {
-                bytes: b"\x01\x00L\x00\x20",
-                refusal: 11,
-            },
-            Case {
-                bytes: b"\x01\x00L\x00\x40",
-                refusal: 11,
-            },
-            Case {
-                bytes: b"\x01\x00L\x00\xC0",
-                refusal: 11,
-            },
-            // the second call
-            Case {
-                bytes: b"\x02\x00W\xFF\xFF?\x00\x00",
-                refusal: 11,
-            },
+            (b"\x01\x00\x00\x00\x00", MALFORMED_CALL),
+            (b"\x01\x00B\x00\x00", MALFORMED_CALL),
+            (b"\x01\x00w\x00\x00", MALFORMED_CALL),
+            (b"\x01\x00\xFF\x00\x00", MALFORMED_CALL),
+            (b"\x02\x00W\xFF\xFF?\x00\x00", MALFORMED_CALL),
         ],
     )
 }
 
-// Each is refused by an earlier refusal where a later one fits as well.
+// Where two refusals fit, the earlier one is given.
 #[test]
 fn the_order_of_refusals() -> Result<(), Fail> {
     check_all(
         &[
-            Case {
-                bytes: b"\x01\x10B",
-                refusal: 9,
-            },
-            Case {
-                bytes: b"\x02\x00B\x00\x00",
-                refusal: 8,
-            },
-            Case {
-                bytes: b"\x00\x00B\x00\x00",
-                refusal: 10,
-            },
-            Case {
-                bytes: b"\x01\x00B\x00\x00\x00",
-                refusal: 10,
-            },
+            (b"\x01\x10", TOO_MANY_CALLS),
+            (b"\x01\x10B", TOO_MANY_CALLS),
+            (b"\xFF\xFF", TOO_MANY_CALLS),
+            (b"\x00\x10", ENDS_INSIDE_CALL),
+            (b"\x02\x00B\x00\x00", ENDS_INSIDE_CALL),
+            (b"\x00\x00B\x00\x00", BYTES_LEFT_OVER),
+            (b"\x01\x00B\x00\x00\x00", BYTES_LEFT_OVER),
         ],
     )
 }
@@ -258,26 +160,18 @@ fn eleven_calls() -> Result<(), Fail> {
     check_eq(calls.next(), None)
 }
 
-// So many calls of reset, with the count that goes with them.
-fn resets(heap: Global, count: u16) -> Result<Vec<u8>, AllocError> {
-    let mut bytes = Vec::new(heap);
-    bytes.extend_from_slice(&count.to_le_bytes())?;
-    for _ in 0..count {
-        bytes.extend_from_slice(b"Z\x00\x00")?;
-    }
-    Ok(bytes)
-}
-
 #[test]
-fn the_longest_session(rt: LibcRuntime) -> Result<(), Fail> {
+fn sessions_of_4096_and_4097_calls(rt: LibcRuntime) -> Result<(), Fail> {
     let heap = rt.alloc();
-    let mut bytes = resets(heap, 4096)?;
-    check_eq(bytes.len(), 12_290)?;
-    check_eq(refused(bytes.as_slice()), 0)?;
-    check_eq(read_session(bytes.as_slice())?.len(), 4096)?;
-    bytes.push(0)?;
-    check_eq(refused(bytes.as_slice()), 10)?;
-    bytes.truncate(12_289);
-    check_eq(refused(bytes.as_slice()), 8)?;
-    check_eq(refused(resets(heap, 4097)?.as_slice()), 9)
+    let mut longest = session_of(heap, 4096, b'Z')?;
+    check_eq(longest.len(), 12_290)?;
+    check_eq(read_session(longest.as_slice())?.len(), 4096)?;
+    longest.push(0)?;
+    check_eq(refusal_of(longest.as_slice()), BYTES_LEFT_OVER)?;
+    longest.truncate(12_289);
+    check_eq(refusal_of(longest.as_slice()), ENDS_INSIDE_CALL)?;
+    let mut longer = session_of(heap, 4097, b'B')?;
+    check_eq(refusal_of(longer.as_slice()), TOO_MANY_CALLS)?;
+    longer.push(0)?;
+    check_eq(refusal_of(longer.as_slice()), TOO_MANY_CALLS)
 }

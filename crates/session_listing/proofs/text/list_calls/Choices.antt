@@ -9,8 +9,5 @@ use Rattle.session_listing.proofs.text.list_calls.Given as given
 
 abbrev pub Inv-loop-call : given.InvT-loop-call
 Inv-loop-call l =
-    (string-bytes (l .text) ++ call-lines (l .offset) (calls-left (l .left)) ≡ string-bytes (l .entry .text) ++ call-lines 2 (calls-left (l .calls)))
-    × (l .offset + 3 * length (calls-left (l .left)) ≤ 12290)
-
-abbrev pub μ-loop-call : given.MeasureT-loop-call
-μ-loop-call l = length (calls-left (l .left))
+    (string-bytes (l .text) ++ call-lines (l .offset) (calls-left (l .call-iterator)) ≡ string-bytes (l .entry .text) ++ call-lines 2 (calls-left (l .calls)))
+    × (l .offset + 3 * length (calls-left (l .call-iterator)) ≤ 12290)

@@ -4,7 +4,7 @@ use Rattle.std.specs.Of.String.{string-bytes}
 use Rattle.session_format.specs.Views.{calls-left}
 use Rattle.session_listing.specs.Lines.{refusal-line}
 use Rattle.session_listing.specs.Listing.{ended, listed, listed-calls, listing-of}
-use Rattle.session_listing.proofs.Feeds.{one-line-each}
+use Rattle.session_listing.proofs.Feeds.{line-feed-each}
 use Rattle.session_listing.proofs.text.listing.Needs as need
 
 pub returns-in-Ok : need.returns-in-Ok
@@ -15,7 +15,7 @@ returns-in-Ok c = record {
       (λ text. string-bytes text ≡ listing-of (c .args .bytes .now))
       (λ text e. e ∙ ap listed (c .in-Ok .ensures tt .answer))
       (c .list-session .ensures);
-  one-line-each = one-line-each (c .args .bytes .now);
+  line-feed-each = line-feed-each (c .args .bytes .now);
 }
 
 pub returns-in-Err : need.returns-in-Err
@@ -26,5 +26,5 @@ returns-in-Err c = record {
       (λ text. string-bytes text ≡ listing-of (c .args .bytes .now))
       (λ text e. e ∙ ap listed (c .in-Err .ensures tt .answer))
       (c .list-refusal .ensures);
-  one-line-each = one-line-each (c .args .bytes .now);
+  line-feed-each = line-feed-each (c .args .bytes .now);
 }
