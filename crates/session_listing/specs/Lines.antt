@@ -38,14 +38,14 @@ operation (Fetch byte) = text (named "fetch" ∷ codes "byte " ∷ hex-byte byte
 operation AskInt = codes "int"
 operation Reset = codes "reset"
 
--- the k-th of a call's three bytes, from 0 on
-abbrev pub byte-of : Call → ℕ → List ℕ
-byte-of call k = hex-byte (getD (call-bytes call) k 0)
+-- the text of the k-th of a call's three bytes, from 0 on
+abbrev pub byte-text : Call → ℕ → List ℕ
+byte-text call k = hex-byte (getD (call-bytes call) k 0)
 
 -- where the call stands in the session, its three bytes, and what it asks for
 abbrev pub call-line : ℕ → Call → List ℕ
 call-line offset call =
-    text (hex-word offset ∷ codes "  " ∷ byte-of call 0 ∷ codes " " ∷ byte-of call 1 ∷ codes " " ∷ byte-of call 2 ∷ codes "  " ∷ operation call ∷ [])
+    text (hex-word offset ∷ codes "  " ∷ byte-text call 0 ∷ codes " " ∷ byte-text call 1 ∷ codes " " ∷ byte-text call 2 ∷ codes "  " ∷ operation call ∷ [])
 
 -- the session's first line: its two bytes of count, the low one first, and the count
 abbrev pub count-line : ℕ → List ℕ
