@@ -10,7 +10,7 @@ use Rattle.session_format.specs.Writing.{session-bytes}
 use Rattle.session_format.specs.declared.encoding.Call.{Call}
 use Rattle.session_format.specs.declared.encoding.Call.the-variants.{Write, Read, Line, Clocks, Acknowledge, Fetch, AskInt, Reset}
 
--- The format has four bits for a line's number. Of the other operands nothing is asked: each has a byte, which holds what a call of the code can hold.
+-- The format has four bits for a line's number. Every other operand is a byte in `Call` and in the format alike, so nothing is asked of it.
 abbrev pub Holds-call : Call → Type 0
 Holds-call (Write port byte) = Unit {0}
 Holds-call (Read port) = Unit {0}

@@ -39,7 +39,7 @@ pub record Begins (bytes : List ℕ) (call : Call) (rest : List ℕ) : Type 0 wh
   pub follows : rest ≡ drop 3 bytes
   pub shorter : length rest < length bytes
 
--- The bytes begin with no well-formed call, so that they are well formed only if there are none.
+-- The bytes begin with no well-formed call, so that they are well formed only if there is no byte.
 pub record Begins-none (bytes : List ℕ) : Type 0 where
   pub calls : calls-in bytes ≡ []
   pub formed : well-formed bytes ≡ eqb (length bytes) 0

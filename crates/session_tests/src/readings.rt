@@ -51,6 +51,8 @@ fn edges_of_the_length() -> Result<(), Fail> {
             (b"\x01\x00A\x00\x00\x00", BYTES_LEFT_OVER),
             (b"\x01\x00A\x00\x00A\x00\x00", BYTES_LEFT_OVER),
             (b"\x02\x00A\x00\x00", ENDS_INSIDE_CALL),
+            // 4,096 calls are not too many, but these are missing
+            (b"\x00\x10", ENDS_INSIDE_CALL),
             // 256 calls, and not the one that the count's bytes would say the other way round
             (b"\x00\x01A\x00\x00", ENDS_INSIDE_CALL),
         ],
@@ -108,7 +110,6 @@ fn the_order_of_refusals() -> Result<(), Fail> {
             (b"\x01\x10", TOO_MANY_CALLS),
             (b"\x01\x10B", TOO_MANY_CALLS),
             (b"\xFF\xFF", TOO_MANY_CALLS),
-            (b"\x00\x10", ENDS_INSIDE_CALL),
             (b"\x02\x00B\x00\x00", ENDS_INSIDE_CALL),
             (b"\x00\x00B\x00\x00", BYTES_LEFT_OVER),
             (b"\x01\x00B\x00\x00\x00", BYTES_LEFT_OVER),

@@ -3,7 +3,7 @@ use session_listing::listing;
 use std::error::AnyError;
 use std::io::Read;
 
-// The longest session and one byte more: the reader's contract says that longer bytes are refused as this front of them is.
+// The longest session and one byte more: the reader's contract says that longer bytes are answered as this front of them is.
 const READ_AT_MOST: u64 = 12_291;
 
 fn main(rt: LibcRuntime) -> Result<(), AnyError> {
