@@ -1,0 +1,140 @@
+-- What the operations on a set of ranks 0 to 15 make of its ranks.
+use Prim.Native.Nat.{ℕ, zero, suc, _+_, _-_, _^_, _<_, _≤_}
+use native.Mathlib.Omega.{arith}
+use mathlib.Core.Bool.{Bool, true, false, not, cond, _&&_, _||_}
+use mathlib.Core.Path.{_≡_, refl, sym, _∙_, ap, ap₂, subst, fun-ext}
+use mathlib.Core.Logic.{_⊎_, inl, inr}
+use lib.Dec.{ltb, eqb}
+use lib.Bits.{bitAnd, bitOr}
+use lib.Pow.{pow-mono}
+use lib.Count.{leadingZeros, ones, leading-of-zero, leading-le}
+use Rattle.std.proofs.shelf.Tests.{ne-eqb, lt-ltb, le-ltb, cases-eq, cases-lt, ltb-true, and-right}
+use Rattle.std.proofs.shelf.Bits.{pow-pos, pow-below}
+use Rattle.std.specs.declared.option.Option.{Option}
+use Rattle.std.specs.declared.option.Option.the-variants.{Some, None}
+use Rattle.ranks.specs.declared.set.RankSet.{RankSet}
+use Rattle.ranks.specs.Ranks.{empty, adding, removing, below, bit, highest, how-many, is-some, above}
+use Rattle.ranks.specs.RankSets.{ranks, mask-of, inserted, removed, intersected}
+use Rattle.ranks.proofs.Digits.{bit-and, bit-or, bit-zero, bit-pow, bit-past, bit-not, highest-of-zero, highest-bit, how-many-bits}
+use Rattle.ranks.proofs.Sets.{highest-none, highest-agrees, how-many-agrees}
+use borrow.Author.Numbers.{leading-lt}
+
+-- a rank of a set is below 16
+pub rank-below : (s : RankSet) (k : ℕ) → ranks s k ≡ true → k < 16
+unfolding below
+rank-below s k h = at (ltb k 16) refl h
+  where
+    at : (t : Bool) → ltb k 16 ≡ t → (t && bit (s .bits) k) ≡ true → k < 16
+    at true e q = ltb-true k 16 e
+    at false e q = absurd (let z : _≡_ {A = ℕ} 0 1 = cc in omega arith)
+
+mask-below : (r : ℕ) → mask-of r < 2 ^ 16
+mask-below r = at (cases-lt r 16)
+  where
+    at : (r < 16) ⊎ (16 ≤ r) → mask-of r < 2 ^ 16
+    at (inl l) = rw (lt-ltb r 16 l) (pow-below r 16 l)
+    at (inr l) = rw (le-ltb r 16 l) (omega arith)
+
+mask-bit : (r k : ℕ) → k < 16 → bit (mask-of r) k ≡ eqb k r
+mask-bit r k h = at (cases-lt r 16)
+  where
+    at : (r < 16) ⊎ (16 ≤ r) → bit (mask-of r) k ≡ eqb k r
+    at (inl l) = rw (lt-ltb r 16 l) (bit-pow r k)
+    at (inr l) = rw (le-ltb r 16 l, ne-eqb k r (λ z. omega arith)) (bit-zero k)
+
+pub ranks-none : ranks (record { bits = 0 }) ≡ empty
+unfolding below empty
+ranks-none = fun-ext (λ k. and-right (ltb k 16) (bit 0 k) (bit-zero k))
+
+or-swap : (x y : Bool) → (x || y) ≡ (y || x)
+or-swap true true = refl
+or-swap true false = refl
+or-swap false true = refl
+or-swap false false = refl
+
+and-swap : (x y : Bool) → (x && y) ≡ (y && x)
+and-swap true true = refl
+and-swap true false = refl
+and-swap false true = refl
+and-swap false false = refl
+
+pub ranks-inserted : (r : ℕ) (s : RankSet) → r < 16 → ranks (inserted r s) ≡ adding r (ranks s)
+unfolding below adding
+ranks-inserted r s h = fun-ext (λ k. at k (cases-lt k 16))
+  where
+    at : (k : ℕ) → (k < 16) ⊎ (16 ≤ k) → (ltb k 16 && bit (bitOr (s .bits) (mask-of r)) k) ≡ (eqb k r || (ltb k 16 && bit (s .bits) k))
+    at k (inl l) = rw (lt-ltb k 16 l) (bit-or (s .bits) (mask-of r) k ∙ ap (λ t. bit (s .bits) k || t) (mask-bit r k l) ∙ or-swap (bit (s .bits) k) (eqb k r))
+    at k (inr l) = rw (le-ltb k 16 l, ne-eqb k r (λ z. omega arith))
+
+pub ranks-removed : (r : ℕ) (s : RankSet) → ranks (removed r s) ≡ removing r (ranks s)
+unfolding below removing
+ranks-removed r s = fun-ext (λ k. at k (cases-lt k 16))
+  where
+    at : (k : ℕ) → (k < 16) ⊎ (16 ≤ k) → (ltb k 16 && bit (bitAnd (s .bits) (65535 - mask-of r)) k) ≡ (not (eqb k r) && (ltb k 16 && bit (s .bits) k))
+    at k (inl l) =
+        rw (lt-ltb k 16 l)
+        (bit-and (s .bits) (65535 - mask-of r) k ∙ ap (λ t. bit (s .bits) k && t) (bit-not 16 (mask-of r) k (mask-below r) l ∙ ap not (mask-bit r k l))
+        ∙ and-swap (bit (s .bits) k) (not (eqb k r)))
+    at k (inr l) = rw (le-ltb k 16 l) (sym (and-right (not (eqb k r)) false refl))
+
+pub ranks-intersected : (s t : RankSet) (k : ℕ) → ranks (intersected s t) k ≡ (ranks s k && ranks t k)
+unfolding below
+ranks-intersected s t k = ap (λ u. ltb k 16 && u) (bit-and (s .bits) (t .bits) k) ∙ shared (ltb k 16) (bit (s .bits) k) (bit (t .bits) k)
+  where
+    shared : (x y z : Bool) → (x && (y && z)) ≡ ((x && y) && (x && z))
+    shared true y z = refl
+    shared false y z = refl
+
+-- the ranks below n, for n up to 16
+pub ranks-lowest : (n k : ℕ) → n ≤ 16 → ranks (record { bits = 2 ^ n - 1 }) k ≡ ltb k n
+unfolding below
+ranks-lowest n k h = at (cases-lt k n)
+  where
+    at : (k < n) ⊎ (n ≤ k) → (ltb k 16 && bit (2 ^ n - 1) k) ≡ ltb k n
+    at (inl l) =
+        rw (lt-ltb k n l, lt-ltb k 16 (omega arith))
+        (ap (λ z. bit z k) (let e : 2 ^ n - 1 ≡ 2 ^ n - 1 - 0 = omega arith in e) ∙ bit-not n 0 k (pow-pos n) l ∙ ap not (bit-zero k))
+    at (inr l) =
+        let m : 2 ^ n ≤ 2 ^ k = pow-mono l in
+        let p : 0 < 2 ^ n = pow-pos n in
+        rw (le-ltb k n l) (and-right (ltb k 16) _ (bit-past (2 ^ n - 1) k (omega arith)))
+
+-- what is found in the bits of a number below 2 ^ 16
+module _ (a : ℕ) (h : a < 65536) where
+  all-bits : (k : ℕ) → k < 16 → below 16 (bit a) k ≡ bit a k
+  unfolding below
+  all-bits k l = rw (lt-ltb k 16 l)
+
+  pub highest-found : 0 < a → highest 16 (below 16 (bit a)) ≡ Some (15 - leadingZeros 16 a)
+  highest-found p = highest-agrees 16 _ _ all-bits ∙ highest-bit 16 a p h
+
+  pub all-counted : how-many 16 (below 16 (bit a)) ≡ ones a
+  all-counted = how-many-agrees 16 _ _ all-bits ∙ how-many-bits 16 a h
+
+pub none-found : highest 16 (below 16 (bit 0)) ≡ None
+unfolding empty
+none-found = ap (highest 16) ranks-none ∙ highest-none 16 empty (λ k l. refl)
+
+pub empty-tested : (a : ℕ) → a < 65536 → eqb a 0 ≡ not (is-some (highest 16 (below 16 (bit a))))
+unfolding is-some
+empty-tested a h = at (cases-eq a 0)
+  where
+    at : (a ≡ 0) ⊎ (a ≡ 0 → ⊥) → eqb a 0 ≡ not (is-some (highest 16 (below 16 (bit a))))
+    at (inl e) = rw (e, none-found)
+    at (inr e) = rw (ne-eqb a 0 e, highest-found a h (omega arith))
+
+pub outranking-tested : (a b : ℕ) → a < 65536 → b < 65536 → ltb (leadingZeros 16 a) (leadingZeros 16 b) ≡ above (highest 16 (below 16 (bit a))) (highest 16 (below 16 (bit b)))
+unfolding above
+outranking-tested a b h g = at (cases-eq a 0) (cases-eq b 0)
+  where
+    at : (a ≡ 0) ⊎ (a ≡ 0 → ⊥) → (b ≡ 0) ⊎ (b ≡ 0 → ⊥) → ltb (leadingZeros 16 a) (leadingZeros 16 b) ≡ above (highest 16 (below 16 (bit a))) (highest 16 (below 16 (bit b)))
+    at (inl e) q = rw (e, none-found, leading-of-zero 16) (le-ltb 16 (leadingZeros 16 b) (leading-le 16 b))
+    at (inr e) (inl q) = rw (q, none-found, leading-of-zero 16, highest-found a h (omega arith)) (lt-ltb (leadingZeros 16 a) 16 (leading-lt 16 a (omega arith) h))
+    at (inr e) (inr q) =
+        let x : leadingZeros 16 a < 16 = leading-lt 16 a (omega arith) h in
+        let y : leadingZeros 16 b < 16 = leading-lt 16 b (omega arith) g in
+        rw (highest-found a h (omega arith), highest-found b g (omega arith)) (turned (leadingZeros 16 a) (leadingZeros 16 b) x y (cases-lt (leadingZeros 16 a) (leadingZeros 16 b)))
+      where
+        turned : (x y : ℕ) → x < 16 → y < 16 → (x < y) ⊎ (y ≤ x) → ltb x y ≡ ltb (15 - y) (15 - x)
+        turned x y p q (inl l) = rw (lt-ltb x y l) (sym (lt-ltb (15 - y) (15 - x) (omega arith)))
+        turned x y p q (inr l) = rw (le-ltb x y l) (sym (le-ltb (15 - y) (15 - x) (omega arith)))

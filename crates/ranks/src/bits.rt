@@ -1,0 +1,34 @@
+// Sixteen bits, as the machine tests and counts them.
+ghost use mathlib.Core.Path.{_≡_};
+ghost use Prim.Native.Nat.{_<_, _-_};
+ghost use lib.Dec.{ltb};
+ghost use lib.Count.{leadingZeros, ones};
+ghost use Rattle.ranks.specs.RankSets.{«mask-of»};
+
+// The number of the highest bit that is set.
+pub(crate) fn top(bits: u16) -> u8
+    requires { ⌜ 0 < bits ⌝ }
+    ensures { λ r. ⌜ r ≡ 15 - leadingZeros 16 bits ⌝ }
+{
+    (15 - bits.leading_zeros()) as u8
+}
+
+// Whether the highest bit of the first stands above every bit of the second.
+pub(crate) fn reach_higher(first: u16, second: u16) -> bool
+    ensures { λ r. ⌜ r ≡ ltb (leadingZeros 16 first) (leadingZeros 16 second) ⌝ }
+{
+    first.leading_zeros() < second.leading_zeros()
+}
+
+pub(crate) fn count(bits: u16) -> u16
+    ensures { λ r. ⌜ r ≡ ones bits ⌝ }
+{
+    bits.count_ones() as u16
+}
+
+// One bit, and none where the number is above 15.
+pub(crate) fn single(number: u8) -> u16
+    ensures { λ r. ⌜ r ≡ mask-of number ⌝ }
+{
+    if number < 16 { 1 << number } else { 0 }
+}
