@@ -1,0 +1,4 @@
+pub mod Refusals
+pub mod Meaning
+pub mod Listing
+pub mod Sentences

@@ -1,0 +1,93 @@
+-- What a card means, and what the calls of the interrupt chain make of it.
+use Prim.Native.Nat.{ℕ}
+use mathlib.Core.Bool.{Bool, not, cond, _&&_}
+use Rattle.std.specs.declared.option.Option.{Option}
+use Rattle.std.specs.declared.option.Option.the-variants.{Some, None}
+use Rattle.ranks.specs.Ranks.{adding, removing, highest, above, is-some}
+use Rattle.card.specs.declared.refusals.Refusal.{Refusal}
+
+pub record Meaning : Type 0 where
+  -- the number of requests, whose ranks are those below it
+  pub size : ℕ
+  -- the ranks that wait, and those in service
+  pub waiting : ℕ → Bool
+  pub service : ℕ → Bool
+  -- the vector byte of each rank, and whether its service is kept
+  pub vector : ℕ → ℕ
+  pub kept : ℕ → Bool
+  -- the ports that the card takes
+  pub ports : ℕ → Bool
+  -- which calls it refuses, and why: a write of a byte to a port, a read of a port, a change of a line to a level
+  pub write-refusal : ℕ → ℕ → Option Refusal
+  pub read-refusal : ℕ → Option Refusal
+  pub line-refusal : ℕ → ℕ → Bool → Option Refusal
+
+abbrev pub highest-waiting : Meaning → Option ℕ
+highest-waiting m = highest (m .size) (m .waiting)
+
+abbrev pub highest-in-service : Meaning → Option ℕ
+highest-in-service m = highest (m .size) (m .service)
+
+-- a waiting rank is above every rank in service
+unfoldable pub asks : Meaning → Bool
+asks m = above (highest-waiting m) (highest-in-service m)
+
+unfoldable pub waits : Meaning → Bool
+waits m = is-some (highest-waiting m)
+
+unfoldable pub serves : Meaning → Bool
+serves m = is-some (highest-in-service m)
+
+-- nothing waits, and nothing is in service
+unfoldable pub quiet : Meaning → Bool
+quiet m = not (waits m) && not (serves m)
+
+-- the same meaning but for the two sets
+unfoldable pub with-sets : Meaning → (ℕ → Bool) → (ℕ → Bool) → Meaning
+with-sets m w s =
+    record {
+      size = m .size;
+      waiting = w;
+      service = s;
+      vector = m .vector;
+      kept = m .kept;
+      ports = m .ports;
+      write-refusal = m .write-refusal;
+      read-refusal = m .read-refusal;
+      line-refusal = m .line-refusal }
+
+-- the rank stops waiting, and enters service if its service is kept
+unfoldable pub rank-taken : Meaning → Option ℕ → Meaning
+rank-taken m None = m
+rank-taken m (Some r) = with-sets m (removing r (m .waiting)) (cond (m .kept r) (adding r (m .service)) (m .service))
+
+-- the rank leaves service
+unfoldable pub rank-ended : Meaning → Option ℕ → Meaning
+rank-ended m None = m
+rank-ended m (Some r) = with-sets m (m .waiting) (removing r (m .service))
+
+unfoldable pub vector-of : Meaning → Option ℕ → Option ℕ
+vector-of m None = None
+vector-of m (Some r) = Some (m .vector r)
+
+-- the interrupt line: the card pulls it exactly when IEI is high and it asks
+unfoldable pub pulls : Bool → Meaning → Bool
+pulls iei m = iei && asks m
+
+-- an acknowledge: a card that pulls takes its highest waiting rank, and answers its vector
+unfoldable pub answer : Bool → Meaning → Option ℕ
+answer iei m = cond (pulls iei m) (vector-of m (highest-waiting m)) None
+
+unfoldable pub taken : Bool → Meaning → Meaning
+taken iei m = cond (pulls iei m) (rank-taken m (highest-waiting m)) m
+
+-- a return: with IEI high, the highest rank in service, if any, leaves it
+unfoldable pub ended : Bool → Meaning → Meaning
+ended iei m = cond iei (rank-ended m (highest-in-service m)) m
+
+-- IEO, and IEO during a return
+unfoldable pub ieo-of : Bool → Meaning → Bool
+ieo-of iei m = iei && quiet m
+
+unfoldable pub ieo-during-return : Bool → Meaning → Bool
+ieo-during-return iei m = iei && not (serves m)
