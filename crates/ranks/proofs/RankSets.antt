@@ -8,7 +8,7 @@ use lib.Dec.{ltb, eqb}
 use lib.Bits.{bitAnd, bitOr}
 use lib.Pow.{pow-mono}
 use lib.Count.{leadingZeros, ones, leading-of-zero, leading-le}
-use Rattle.std.proofs.shelf.Tests.{ne-eqb, lt-ltb, le-ltb, cases-eq, cases-lt, ltb-true, and-right}
+use Rattle.std.proofs.shelf.Tests.{eq-eqb, ne-eqb, lt-ltb, le-ltb, cases-eq, cases-lt, ltb-true, and-right}
 use Rattle.std.proofs.shelf.Bits.{pow-pos, pow-below}
 use Rattle.std.specs.declared.option.Option.{Option}
 use Rattle.std.specs.declared.option.Option.the-variants.{Some, None}
@@ -84,6 +84,29 @@ ranks-intersected s t k = ap (λ u. ltb k 16 && u) (bit-and (s .bits) (t .bits) 
     shared : (x y z : Bool) → (x && (y && z)) ≡ ((x && y) && (x && z))
     shared true y z = refl
     shared false y z = refl
+
+-- a rank leaves what two sets share where it leaves the first, and enters it there if it is in the second
+pub removed-from-both : (r : ℕ) (s t : RankSet) → ranks (intersected (removed r s) t) ≡ removing r (ranks (intersected s t))
+unfolding removing
+removed-from-both r s t =
+    fun-ext (λ k.
+      ranks-intersected (removed r s) t k ∙ ap (λ p. p k && ranks t k) (ranks-removed r s)
+      ∙ grouped (not (eqb k r)) (ranks s k) (ranks t k) ∙ ap (λ x. not (eqb k r) && x) (sym (ranks-intersected s t k)))
+  where
+    grouped : (x y z : Bool) → ((x && y) && z) ≡ (x && (y && z))
+    grouped true y z = refl
+    grouped false y z = refl
+
+pub inserted-in-both : (r : ℕ) (s t : RankSet) → r < 16 → ranks t r ≡ true → ranks (intersected (inserted r s) t) ≡ adding r (ranks (intersected s t))
+unfolding adding
+inserted-in-both r s t h e =
+    fun-ext (λ k.
+      ranks-intersected (inserted r s) t k ∙ ap (λ p. p k && ranks t k) (ranks-inserted r s h)
+      ∙ at k (cases-eq k r) ∙ ap (λ x. eqb k r || x) (sym (ranks-intersected s t k)))
+  where
+    at : (k : ℕ) → (k ≡ r) ⊎ (k ≡ r → ⊥) → ((eqb k r || ranks s k) && ranks t k) ≡ (eqb k r || (ranks s k && ranks t k))
+    at k (inl q) = rw (q, eq-eqb r r refl) e
+    at k (inr q) = rw (ne-eqb k r q)
 
 -- the ranks below n, for n up to 16
 pub ranks-lowest : (n k : ℕ) → n ≤ 16 → ranks (record { bits = 2 ^ n - 1 }) k ≡ ltb k n

@@ -74,6 +74,11 @@ module _ (p : ℕ → Bool) (n : ℕ) (ends : (k : ℕ) → n ≤ k → p k ≡ 
   highest-wider zero = rw (zero-add n)
   highest-wider (suc d) = rw (suc-add d n, ends (d + n) (omega arith)) (highest-wider d)
 
+  pub how-many-wider : (d : ℕ) → how-many (d + n) p ≡ how-many n p
+  unfolding how-many
+  how-many-wider zero = rw (zero-add n)
+  how-many-wider (suc d) = rw (suc-add d n, ends (d + n) (omega arith), zero-add) (how-many-wider d)
+
   pub from-the-top-wider : (v : ℕ → ℕ) (d : ℕ) → from-the-top (d + n) p v ≡ from-the-top n p v
   unfolding from-the-top
   from-the-top-wider v zero = rw (zero-add n)

@@ -1,0 +1,3 @@
+pub mod ControlWords
+pub mod Channels
+pub mod Chip

@@ -1,0 +1,91 @@
+// The control word of a channel.
+ghost use mathlib.Core.Path.{_≡_};
+ghost use Prim.Native.Nat.{_<_};
+ghost use Rattle.ranks.specs.Ranks.{bit};
+ghost use Rattle.ctc.specs.ControlWords.{cleared, «control-of», «divisor-of», «prescaler-restarts», «starts-armed», «edge-acts»};
+
+// The bits of a control word that a channel keeps.
+#[derive(Clone, Copy)]
+pub struct Control {
+    interrupt: bool,
+    // Counter mode, in place of timer mode.
+    counter: bool,
+    // The divisor 256, in place of 16.
+    slow: bool,
+    // The rising edge of the trigger acts, in place of the falling edge.
+    rising: bool,
+    // In timer mode the channel starts on the trigger.
+    triggered: bool,
+}
+
+impl Control {
+    pub(crate) fn cleared() -> Control
+        ensures { λ r. ⌜ r ≡ cleared ⌝ }
+    {
+        Control {
+            interrupt: false,
+            counter: false,
+            slow: false,
+            rising: false,
+            triggered: false,
+        }
+    }
+
+    pub(crate) fn of_word(word: u8) -> Control
+        ensures { λ r. ⌜ r ≡ control-of word ⌝ }
+    {
+        Control {
+            interrupt: is_set(word, 7),
+            counter: is_set(word, 6),
+            slow: is_set(word, 5),
+            rising: is_set(word, 4),
+            triggered: is_set(word, 3),
+        }
+    }
+
+    pub(crate) fn interrupt(self) -> bool
+        ensures { λ r. ⌜ r ≡ self .interrupt ⌝ }
+    {
+        self.interrupt
+    }
+
+    pub(crate) fn counts_edges(self) -> bool
+        ensures { λ r. ⌜ r ≡ self .counter ⌝ }
+    {
+        self.counter
+    }
+
+    pub(crate) fn divisor(self) -> u16
+        ensures { λ r. ⌜ r ≡ divisor-of self ⌝ }
+    {
+        if self.slow { 256 } else { 16 }
+    }
+
+    // Whether a change to the next control zeroes the prescaler count.
+    pub(crate) fn restarts_prescaler(self, next: Control) -> bool
+        ensures { λ r. ⌜ r ≡ prescaler-restarts self next ⌝ }
+    {
+        (self.slow != next.slow) | (self.counter != next.counter)
+    }
+
+    // Whether a channel that is given its constant waits for the trigger.
+    pub(crate) fn starts_armed(self) -> bool
+        ensures { λ r. ⌜ r ≡ starts-armed self ⌝ }
+    {
+        !self.counter & self.triggered
+    }
+
+    // Whether a change of the trigger line from one level to another is an edge that acts.
+    pub(crate) fn edge_acts(self, from: bool, to: bool) -> bool
+        ensures { λ r. ⌜ r ≡ edge-acts self from to ⌝ }
+    {
+        (from != to) & (to == self.rising)
+    }
+}
+
+pub(crate) fn is_set(byte: u8, number: u8) -> bool
+    requires { ⌜ number < 8 ⌝ }
+    ensures { λ r. ⌜ r ≡ bit byte number ⌝ }
+{
+    (byte >> number) % 2 == 1
+}
