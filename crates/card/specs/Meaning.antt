@@ -74,16 +74,22 @@ vector-of m (Some r) = Some (m .vector r)
 unfoldable pub pulls : Bool → Meaning → Bool
 pulls iei m = iei && asks m
 
--- an acknowledge: a card that pulls takes its highest waiting rank, and answers its vector
+-- an acknowledge: a card that pulls takes its highest waiting rank, and its vector is the answer
+unfoldable pub rank-acknowledged : Bool → Meaning → Option ℕ
+rank-acknowledged iei m = cond (pulls iei m) (highest-waiting m) None
+
 unfoldable pub answer : Bool → Meaning → Option ℕ
-answer iei m = cond (pulls iei m) (vector-of m (highest-waiting m)) None
+answer iei m = vector-of m (rank-acknowledged iei m)
 
 unfoldable pub taken : Bool → Meaning → Meaning
-taken iei m = cond (pulls iei m) (rank-taken m (highest-waiting m)) m
+taken iei m = rank-taken m (rank-acknowledged iei m)
 
 -- a return: with IEI high, the highest rank in service, if any, leaves it
+unfoldable pub rank-returned : Bool → Meaning → Option ℕ
+rank-returned iei m = cond iei (highest-in-service m) None
+
 unfoldable pub ended : Bool → Meaning → Meaning
-ended iei m = cond iei (rank-ended m (highest-in-service m)) m
+ended iei m = rank-ended m (rank-returned iei m)
 
 -- IEO, and IEO during a return
 unfoldable pub ieo-of : Bool → Meaning → Bool

@@ -1,0 +1,3 @@
+pub mod FourRanks
+pub mod OnTheChain
+pub mod Sentences

@@ -1,3 +1,4 @@
 pub mod ControlWords
 pub mod Channels
 pub mod Chip
+pub mod Card

@@ -1,7 +1,8 @@
 // The registers of a CTC, and what its calls make of them.
 ghost use mathlib.Core.Path.{_≡_};
-ghost use mathlib.Core.Bool.{Bool, not, _&&_};
+ghost use mathlib.Core.Bool.{Bool, not, cond, _&&_};
 ghost use Prim.Native.Nat.{_<_};
+ghost use Rattle.std.specs.declared.option.Option.the-variants.{None};
 ghost use Rattle.ranks.specs.Ranks.{highest, «how-many», above, «is-some»};
 ghost use Rattle.ranks.specs.RankSets.{ranks};
 ghost use Rattle.card.specs.Refusals.{answered};
@@ -61,6 +62,39 @@ impl Ctc {
         ensures { λ r. ⌜ r ≡ service-set (now (self .entry)) ⌝ }
     {
         self.service.intersection(RankSet::from_bits(15))
+    }
+
+    pub(crate) fn nothing_waits(&self) -> bool
+        ensures { λ r. ⌜ r ≡ not (is-some (highest 16 (ranks (waiting-set (now (self .entry)))))) ⌝ }
+    {
+        self.waiting_ranks().is_empty()
+    }
+
+    pub(crate) fn nothing_in_service(&self) -> bool
+        ensures { λ r. ⌜ r ≡ not (is-some (highest 16 (ranks (service-set (now (self .entry)))))) ⌝ }
+    {
+        self.service_ranks().is_empty()
+    }
+
+    // Whether a waiting rank is above every rank in service.
+    pub(crate) fn asks(&self) -> bool
+        ensures { λ r. ⌜ r ≡ above (highest 16 (ranks (waiting-set (now (self .entry))))) (highest 16 (ranks (service-set (now (self .entry))))) ⌝ }
+    {
+        self.waiting_ranks().outranks(self.service_ranks())
+    }
+
+    // The rank that an acknowledge takes, if any.
+    pub(crate) fn rank_acknowledged(&self, iei: bool) -> Option<u8>
+        ensures { λ r. ⌜ r ≡ cond (iei && above (highest 16 (ranks (waiting-set (now (self .entry))))) (highest 16 (ranks (service-set (now (self .entry)))))) (highest 16 (ranks (waiting-set (now (self .entry))))) None ⌝ }
+    {
+        if iei & self.asks() { self.waiting_ranks().highest() } else { None }
+    }
+
+    // The rank whose service a return ends, if any.
+    pub(crate) fn rank_returned(&self, iei: bool) -> Option<u8>
+        ensures { λ r. ⌜ r ≡ cond iei (highest 16 (ranks (service-set (now (self .entry))))) None ⌝ }
+    {
+        if iei { self.service_ranks().highest() } else { None }
     }
 
     pub(crate) fn vector_at(&self, rank: u8) -> u8
