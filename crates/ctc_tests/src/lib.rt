@@ -1,0 +1,7 @@
+// Examples of a CTC, as tables of steps.
+#[cfg(test)]
+mod counting;
+#[cfg(test)]
+mod requests;
+#[cfg(test)]
+mod steps;
