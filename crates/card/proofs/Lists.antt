@@ -43,16 +43,17 @@ module _ (v : ℕ → ℕ) where
     next r e l =
         let fewer = one-fewer left r e in
         let front : take (i + 1) (set now i (v r)) ≡ take i now ++ v r ∷ [] =
-            take-more (set now i (v r)) i 0 (rw length-set l)
-            ∙ ap₂ (λ x y. x ++ y ∷ []) (take-set-le i now i (v r) (omega arith)) (getD-set-same now i (v r) 0 l) in
+        take-more (set now i (v r)) i 0 (rw length-set l)
+        ∙ ap₂ (λ x y. x ++ y ∷ []) (take-set-le i now i (v r) (omega arith)) (getD-set-same now i (v r) 0 l) in
         record {
           counted = let c = h .counted in omega arith;
           put =
-            ap (λ x. x ++ from-the-top 16 (ranks (removed r left)) v) front
-            ∙ append-assoc (take i now) (v r ∷ []) (from-the-top 16 (ranks (removed r left)) v)
-            ∙ ap (λ x. take i now ++ x) (sym (next-listed left r e)) ∙ h .put;
+              ap (λ x. x ++ from-the-top 16 (ranks (removed r left)) v) front
+              ∙ append-assoc (take i now) (v r ∷ []) (from-the-top 16 (ranks (removed r left)) v)
+              ∙ ap (λ x. take i now ++ x) (sym (next-listed left r e)) ∙ h .put;
           behind =
-            drop-set-lt (i + 1) now i (v r) (omega arith) ∙ sym (drop-drop 1 i now) ∙ ap (drop 1) (h .behind) ∙ drop-drop 1 i buffer }
+              drop-set-lt (i + 1) now i (v r) (omega arith) ∙ sym (drop-drop 1 i now) ∙ ap (drop 1) (h .behind) ∙ drop-drop 1 i buffer;
+        }
 
     pub put-next : (r x : ℕ) (t : RankSet) → Some r ≡ highest 16 (ranks left) → i < length now → x ≡ v r → t ≡ removed r left → Putting all buffer (i + 1) t (set now i x)
     put-next r x t e l p q = subst₂ (λ u y. Putting all buffer (i + 1) u (set now i y)) (sym q) (sym p) (next r e l)

@@ -18,4 +18,5 @@ plain-unaltered m r =
       acknowledge = λ s t iei h. ap (λ x. r .after-acknowledge x iei) h;
       ending = λ s t iei h. ap (λ x. r .after-return x iei) h;
       reset = λ s t h. ap (r .after-reset) h;
-      list = λ s t h. ap (r .waiting-bytes) h }
+      list = λ s t h. ap (r .waiting-bytes) h;
+    }

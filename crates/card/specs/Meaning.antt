@@ -54,7 +54,8 @@ with-sets m w s =
       ports = m .ports;
       write-refusal = m .write-refusal;
       read-refusal = m .read-refusal;
-      line-refusal = m .line-refusal }
+      line-refusal = m .line-refusal;
+    }
 
 -- the rank stops waiting, and enters service if its service is kept
 unfoldable pub rank-taken : Meaning → Option ℕ → Meaning

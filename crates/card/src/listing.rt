@@ -25,7 +25,11 @@ pub fn places(buffer: &[u8]) -> usize
 }
 
 // Puts the vectors of these ranks at the front of the buffer, the highest rank's first; answers how many they are.
-pub fn list_vectors<C: Vectors>(card: &C, waiting: RankSet, buffer: &mut [u8]) -> Result<u16, Refusal>
+pub fn list_vectors<C: Vectors>(
+    card: &C,
+    waiting: RankSet,
+    buffer: &mut [u8],
+) -> Result<u16, Refusal>
     ensures answer { λ r. ⌜ r ≡ list-answer (how-many 16 (ranks waiting)) (now (buffer .entry)) ⌝ }
     ensures bytes { λ _. ⌜ now (buffer .exit) ≡ listed-into (from-the-top 16 (ranks waiting) (C·Vectors .vectors (now (card .entry)))) (now (buffer .entry)) ⌝ }
 {

@@ -73,8 +73,10 @@ next-multiple P n h = by-rest (cases-eq (n % P + 1) P)
   where
     below : n % P < P
     below = mod-below n P h
+
     over : (n + 1) % P ≡ suc (n % P) % P
     over = rw (add-one n) (suc-mod n P)
+
     by-rest : (n % P + 1 ≡ P) ⊎ (n % P + 1 ≡ P → ⊥) → (eqb (P - n % P) 1 ≡ eqb ((n + 1) % P) 0) × (cond (eqb (P - n % P) 1) P (P - n % P - 1) ≡ P - (n + 1) % P)
     by-rest (inl e) =
         let z : (n + 1) % P ≡ 0 = over ∙ ap (λ m. m % P) (sym (add-one (n % P)) ∙ e) ∙ mod-self P in

@@ -93,10 +93,11 @@ ctc-sentences =
       unaltered = plain-unaltered ctc-meaning ctc-rules;
       ranks-below-size = λ c. record { waiting = below-four (c .waiting); service = below-four (c .service) };
       refused-by-1-off-its-ports = λ c.
-        record {
-          write = λ p b. write-off-port (takes c p) (role-in c p b);
-          read = λ p. read-off-port (takes c p);
-          line = λ p l high. line-off-port (takes c p) (ltb 3 l) };
+          record {
+            write = λ p b. write-off-port (takes c p) (role-in c p b);
+            read = λ p. read-off-port (takes c p);
+            line = λ p l high. line-off-port (takes c p) (ltb 3 l);
+          };
       list-is-of-what-waits = λ c. record { byte-a-rank = from-the-top-length 4 _ _; vectors = λ v. refl };
       acknowledge-takes-the-highest = λ c iei. taken-means c (rank-acknowledged iei (ctc-meaning c)) (λ r e. acknowledged-waits iei (ctc-meaning c) r e .0);
       acknowledge-without-a-pull-alters-nothing = λ c iei e. ap (λ o. rank-taken o c) (sym (no-pull-takes-none iei (ctc-meaning c) e));
@@ -109,4 +110,5 @@ ctc-sentences =
       line-moves = λ c p l high. moves-either-way (takes c p) c _ c (moves-either-way (ltb 3 l) c c _ (not-moved (ctc-meaning c)) (triggered-moves l high c)) (not-moved (ctc-meaning c));
       refused-write-alters-nothing = λ c p b h. refused-write-stays (takes c p) (role-in c p b) (channel-of p) b c h;
       refused-read-alters-nothing = λ c p h. refl;
-      refused-line-alters-nothing = λ c p l high h. refused-line-stays (takes c p) (ltb 3 l) c (triggered-at l high c) h }
+      refused-line-alters-nothing = λ c p l high h. refused-line-stays (takes c p) (ltb 3 l) c (triggered-at l high c) h;
+    }

@@ -22,7 +22,8 @@ ctc-meaning c =
       ports = takes c;
       write-refusal = write-refusal c;
       read-refusal = read-refusal c;
-      line-refusal = λ port line high. line-refusal c port line }
+      line-refusal = λ port line high. line-refusal c port line;
+    }
 
 -- the rank, if there is one, is taken or leaves service
 abbrev pub rank-taken : Option ℕ → Ctc → Ctc
@@ -44,4 +45,5 @@ ctc-rules =
       after-acknowledge = λ c iei. rank-taken (rank-acknowledged iei (ctc-meaning c)) c;
       after-return = λ c iei. rank-ended (rank-returned iei (ctc-meaning c)) c;
       after-reset = ctc-reset;
-      waiting-bytes = λ c. from-the-top 4 (ranks (waiting-set c)) (vector-at c) }
+      waiting-bytes = λ c. from-the-top 4 (ranks (waiting-set c)) (vector-at c);
+    }

@@ -41,7 +41,8 @@ constant-taken b c =
       control = c .control;
       phase = cond (is-stopped (c .phase)) (cond (starts-armed (c .control)) Armed Running) (c .phase);
       awaits = false;
-      trigger = c .trigger }
+      trigger = c .trigger;
+    }
 
 abbrev pub control-taken : ℕ → Channel → Channel
 control-taken b c =
@@ -50,7 +51,8 @@ control-taken b c =
       control = control-of b;
       phase = cond (stops b) Stopped (c .phase);
       awaits = constant-follows b;
-      trigger = c .trigger }
+      trigger = c .trigger;
+    }
 
 abbrev pub with-stage : CountStage → Channel → Channel
 with-stage s c = record { stage = s; control = c .control; phase = c .phase; awaits = c .awaits; trigger = c .trigger }
@@ -80,7 +82,8 @@ line-changed high c =
       control = c .control;
       phase = cond (acts high c && is-armed (c .phase)) Running (c .phase);
       awaits = c .awaits;
-      trigger = high }
+      trigger = high;
+    }
 
 abbrev pub line-raises : Bool → Channel → Bool
 line-raises high c = (counts-edge high c && step-times-out (c .stage)) && c .control .interrupt

@@ -78,7 +78,8 @@ ctc-reset c =
       vector = 0;
       channels = reset-at 3 (reset-at 2 (reset-at 1 (reset-at 0 (c .channels))));
       waiting = no-ranks;
-      service = no-ranks }
+      service = no-ranks;
+    }
 
 -- a clock goes to every channel
 abbrev pub clocked-at : ℕ → Ctc → Ctc

@@ -64,7 +64,11 @@ impl Channel {
         match self.phase {
             Phase::Stopped => {
                 self.stage.start(constant);
-                self.phase = if self.control.starts_armed() { Phase::Armed } else { Phase::Running };
+                self.phase = if self.control.starts_armed() {
+                    Phase::Armed
+                } else {
+                    Phase::Running
+                };
             }
             Phase::Armed | Phase::Running => self.stage.set_constant(constant),
         }
@@ -91,7 +95,9 @@ impl Channel {
         ensures after { λ _. ⌜ now (self .exit) ≡ channel-clocked (now (self .entry)) ⌝ }
     {
         match self.phase {
-            Phase::Running if !self.control.counts_edges() => self.stage.clock(self.control.divisor()) & self.control.interrupt(),
+            Phase::Running if !self.control.counts_edges() => self.stage
+                .clock(self.control.divisor())
+                & self.control.interrupt(),
             _ => false,
         }
     }
@@ -111,7 +117,8 @@ impl Channel {
                 self.phase = Phase::Running;
                 false
             }
-            Phase::Running if self.control.counts_edges() => self.stage.step() & self.control.interrupt(),
+            Phase::Running if self.control.counts_edges() => self.stage.step()
+                & self.control.interrupt(),
             _ => false,
         }
     }

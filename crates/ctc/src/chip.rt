@@ -39,7 +39,12 @@ impl Ctc {
         Ctc {
             port,
             vector: 0,
-            channels: [Channel::new(), Channel::new(), Channel::new(), Channel::new()],
+            channels: [
+                Channel::new(),
+                Channel::new(),
+                Channel::new(),
+                Channel::new(),
+            ],
             waiting: RankSet::from_bits(0),
             service: RankSet::from_bits(0),
         }
@@ -87,14 +92,22 @@ impl Ctc {
     pub(crate) fn rank_acknowledged(&self, iei: bool) -> Option<u8>
         ensures { λ r. ⌜ r ≡ cond (iei && above (highest 16 (ranks (waiting-set (now (self .entry))))) (highest 16 (ranks (service-set (now (self .entry)))))) (highest 16 (ranks (waiting-set (now (self .entry))))) None ⌝ }
     {
-        if iei & self.asks() { self.waiting_ranks().highest() } else { None }
+        if iei & self.asks() {
+            self.waiting_ranks().highest()
+        } else {
+            None
+        }
     }
 
     // The rank whose service a return ends, if any.
     pub(crate) fn rank_returned(&self, iei: bool) -> Option<u8>
         ensures { λ r. ⌜ r ≡ cond iei (highest 16 (ranks (service-set (now (self .entry))))) None ⌝ }
     {
-        if iei { self.service_ranks().highest() } else { None }
+        if iei {
+            self.service_ranks().highest()
+        } else {
+            None
+        }
     }
 
     pub(crate) fn vector_at(&self, rank: u8) -> u8

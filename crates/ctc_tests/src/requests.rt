@@ -16,18 +16,100 @@ fn services() -> Result<(), Fail> {
     check_all(
         &[
             // channel k adds 2 × k to the vector, whose low three bits are not taken over
-            &[Write(0x10, 0x46), Write(0x13, 0x85), Write(0x13, 1), Clocks(16), Acknowledge(Some(0x46)), Write(0x10, 0xFE), Write(0x12, 0x85), Write(0x12, 1), Clocks(16), Acknowledge(Some(0xFC))],
+            &[
+                Write(0x10, 0x46),
+                Write(0x13, 0x85),
+                Write(0x13, 1),
+                Clocks(16),
+                Acknowledge(Some(0x46)),
+                Write(0x10, 0xFE),
+                Write(0x12, 0x85),
+                Write(0x12, 1),
+                Clocks(16),
+                Acknowledge(Some(0xFC)),
+            ],
             // the lower channel outranks the higher: it interrupts its service, and is ended first
-            &[Write(0x13, 0xD5), Write(0x13, 1), Write(0x11, 0xD5), Write(0x11, 1), Line(3, true), Acknowledge(Some(6)), Line(1, true), Int(true), Acknowledge(Some(2)), Line(3, false), Line(3, true), Int(false), Acknowledge(None), Return, Int(false), Return, Int(true), Acknowledge(Some(6))],
+            &[
+                Write(0x13, 0xD5),
+                Write(0x13, 1),
+                Write(0x11, 0xD5),
+                Write(0x11, 1),
+                Line(3, true),
+                Acknowledge(Some(6)),
+                Line(1, true),
+                Int(true),
+                Acknowledge(Some(2)),
+                Line(3, false),
+                Line(3, true),
+                Int(false),
+                Acknowledge(None),
+                Return,
+                Int(false),
+                Return,
+                Int(true),
+                Acknowledge(Some(6)),
+            ],
             // a request that waits while its own rank is in service is not taken
-            &[Write(0x10, 0xD5), Write(0x10, 1), Line(0, true), Acknowledge(Some(0)), Line(0, false), Line(0, true), Waiting(1), Acknowledge(None), Return, Acknowledge(Some(0))],
+            &[
+                Write(0x10, 0xD5),
+                Write(0x10, 1),
+                Line(0, true),
+                Acknowledge(Some(0)),
+                Line(0, false),
+                Line(0, true),
+                Waiting(1),
+                Acknowledge(None),
+                Return,
+                Acknowledge(Some(0)),
+            ],
             // a control word with bit 7 clear drops a waiting request, but no service
-            &[Write(0x10, 0xD5), Write(0x10, 1), Line(0, true), Waiting(1), Write(0x10, 0x51), Waiting(0), Int(false)],
-            &[Write(0x10, 0xD5), Write(0x10, 1), Write(0x11, 0xD5), Write(0x11, 1), Line(0, true), Acknowledge(Some(0)), Write(0x10, 0x51), Line(1, true), Int(false), Return, Int(true)],
+            &[
+                Write(0x10, 0xD5),
+                Write(0x10, 1),
+                Line(0, true),
+                Waiting(1),
+                Write(0x10, 0x51),
+                Waiting(0),
+                Int(false),
+            ],
+            &[
+                Write(0x10, 0xD5),
+                Write(0x10, 1),
+                Write(0x11, 0xD5),
+                Write(0x11, 1),
+                Line(0, true),
+                Acknowledge(Some(0)),
+                Write(0x10, 0x51),
+                Line(1, true),
+                Int(false),
+                Return,
+                Int(true),
+            ],
             // a reset drops both
-            &[Write(0x10, 0xD5), Write(0x10, 1), Line(0, true), Acknowledge(Some(0)), Line(0, false), Line(0, true), Reset, Waiting(0), Write(0x13, 0xC5), Write(0x13, 1), Line(3, true), Line(3, false), Int(true)],
+            &[
+                Write(0x10, 0xD5),
+                Write(0x10, 1),
+                Line(0, true),
+                Acknowledge(Some(0)),
+                Line(0, false),
+                Line(0, true),
+                Reset,
+                Waiting(0),
+                Write(0x13, 0xC5),
+                Write(0x13, 1),
+                Line(3, true),
+                Line(3, false),
+                Int(true),
+            ],
             // a return without service has no effect
-            &[Return, Write(0x10, 0xD5), Write(0x10, 1), Line(0, true), Return, Acknowledge(Some(0))],
+            &[
+                Return,
+                Write(0x10, 0xD5),
+                Write(0x10, 1),
+                Line(0, true),
+                Return,
+                Acknowledge(Some(0)),
+            ],
         ],
     )
 }
@@ -36,9 +118,27 @@ fn services() -> Result<(), Fail> {
 fn refusals() -> Result<(), Fail> {
     check_all(
         &[
-            &[WriteRefused(0x0F, 0x85, Refusal::PortNotTaken), WriteRefused(0x14, 0x85, Refusal::PortNotTaken), ReadRefused(0x0F, Refusal::PortNotTaken), ReadRefused(0x14, Refusal::PortNotTaken), LineRefused(0x14, 0, Refusal::PortNotTaken), LineRefused(0x14, 4, Refusal::PortNotTaken)],
-            &[LineRefused(0x13, 4, Refusal::NoSuchLine), LineRefused(0x10, 255, Refusal::NoSuchLine)],
-            &[Write(0x10, 0x80), WriteRefused(0x11, 0x80, Refusal::ByteNotAwaited), WriteRefused(0x12, 0, Refusal::ByteNotAwaited), WriteRefused(0x13, 0xFE, Refusal::ByteNotAwaited), Write(0x13, 0x85), Write(0x13, 0xFE), Read(0x13, 0xFE)],
+            &[
+                WriteRefused(0x0F, 0x85, Refusal::PortNotTaken),
+                WriteRefused(0x14, 0x85, Refusal::PortNotTaken),
+                ReadRefused(0x0F, Refusal::PortNotTaken),
+                ReadRefused(0x14, Refusal::PortNotTaken),
+                LineRefused(0x14, 0, Refusal::PortNotTaken),
+                LineRefused(0x14, 4, Refusal::PortNotTaken),
+            ],
+            &[
+                LineRefused(0x13, 4, Refusal::NoSuchLine),
+                LineRefused(0x10, 255, Refusal::NoSuchLine),
+            ],
+            &[
+                Write(0x10, 0x80),
+                WriteRefused(0x11, 0x80, Refusal::ByteNotAwaited),
+                WriteRefused(0x12, 0, Refusal::ByteNotAwaited),
+                WriteRefused(0x13, 0xFE, Refusal::ByteNotAwaited),
+                Write(0x13, 0x85),
+                Write(0x13, 0xFE),
+                Read(0x13, 0xFE),
+            ],
         ],
     )
 }

@@ -52,7 +52,10 @@ fn make(card: &mut Ctc, step: Step) -> Result<(), Fail> {
         Step::ReadRefused(port, refusal) => check_eq(card.read(port), Err(refusal)),
         Step::Clocks(number) => Ok(clocks(card, number)),
         Step::Line(line, high) => check_eq(card.change_line(0x10, line, high), Ok(())),
-        Step::LineRefused(port, line, refusal) => check_eq(card.change_line(port, line, true), Err(refusal)),
+        Step::LineRefused(port, line, refusal) => check_eq(
+            card.change_line(port, line, true),
+            Err(refusal),
+        ),
         Step::Int(pulled) => check_eq(card.pulls_int(true), pulled),
         Step::Acknowledge(vector) => check_eq(card.acknowledge(true), vector),
         Step::Return => Ok(card.return_from_interrupt(true)),

@@ -90,8 +90,8 @@ pub removed-from-both : (r : ℕ) (s t : RankSet) → ranks (intersected (remove
 unfolding removing
 removed-from-both r s t =
     fun-ext (λ k.
-      ranks-intersected (removed r s) t k ∙ ap (λ p. p k && ranks t k) (ranks-removed r s)
-      ∙ grouped (not (eqb k r)) (ranks s k) (ranks t k) ∙ ap (λ x. not (eqb k r) && x) (sym (ranks-intersected s t k)))
+    ranks-intersected (removed r s) t k ∙ ap (λ p. p k && ranks t k) (ranks-removed r s)
+    ∙ grouped (not (eqb k r)) (ranks s k) (ranks t k) ∙ ap (λ x. not (eqb k r) && x) (sym (ranks-intersected s t k)))
   where
     grouped : (x y z : Bool) → ((x && y) && z) ≡ (x && (y && z))
     grouped true y z = refl
@@ -101,8 +101,8 @@ pub inserted-in-both : (r : ℕ) (s t : RankSet) → r < 16 → ranks t r ≡ tr
 unfolding adding
 inserted-in-both r s t h e =
     fun-ext (λ k.
-      ranks-intersected (inserted r s) t k ∙ ap (λ p. p k && ranks t k) (ranks-inserted r s h)
-      ∙ at k (cases-eq k r) ∙ ap (λ x. eqb k r || x) (sym (ranks-intersected s t k)))
+    ranks-intersected (inserted r s) t k ∙ ap (λ p. p k && ranks t k) (ranks-inserted r s h)
+    ∙ at k (cases-eq k r) ∙ ap (λ x. eqb k r || x) (sym (ranks-intersected s t k)))
   where
     at : (k : ℕ) → (k ≡ r) ⊎ (k ≡ r → ⊥) → ((eqb k r || ranks s k) && ranks t k) ≡ (eqb k r || (ranks s k && ranks t k))
     at k (inl q) = rw (q, eq-eqb r r refl) e

@@ -110,6 +110,7 @@ from-the-top-first (suc n) p v r e = at (p n) (from-the-top-first n p v r) e
   where
     gone : from-the-top n (removing n p) v ≡ from-the-top n p v
     gone = from-the-top-agrees n (removing n p) p v (λ k l. rw (ne-eqb k n (λ z. omega arith)))
+
     at : (t : Bool) → (Some r ≡ highest n p → from-the-top n p v ≡ v r ∷ from-the-top n (removing r p) v) → Some r ≡ cond t (Some n) (highest n p)
         → cond t (v n ∷ from-the-top n p v) (from-the-top n p v) ≡ v r ∷ cond (not (eqb n r) && t) (v n ∷ from-the-top n (removing r p) v) (from-the-top n (removing r p) v)
     at true f h =

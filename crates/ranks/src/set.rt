@@ -3,7 +3,6 @@ ghost use mathlib.Core.Path.{_≡_};
 ghost use mathlib.Core.Bool.{Bool, not};
 ghost use Rattle.ranks.specs.Ranks.{highest, «is-some», above, «how-many»};
 ghost use Rattle.ranks.specs.RankSets.{ranks, inserted, removed, intersected};
-
 use crate::bits;
 
 // A set of ranks 0 to 15, a bit for each.

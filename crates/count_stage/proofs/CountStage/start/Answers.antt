@@ -9,4 +9,5 @@ returns c =
     let k = c .args .constant in
     record {
       after = c .fresh .ensures;
-      times-out-at-every-multiple = subst (Times-out-at-every-multiple k) (sym (c .fresh .ensures)) (λ d n h. at-every-multiple d k (omega arith) h n) }
+      times-out-at-every-multiple = subst (Times-out-at-every-multiple k) (sym (c .fresh .ensures)) (λ d n h. at-every-multiple d k (omega arith) h n);
+    }

@@ -11,5 +11,6 @@ returns c =
       answer = c .write-port .ensures .answer;
       after = c .write-port .ensures .after;
       service-only-shrinks =
-        subst (λ t. Service-only-shrinks (ctc-meaning s) (ctc-meaning t)) (sym (c .write-port .ensures .after))
-        (ctc-sentences .write-moves s (c .args .port) (c .args .byte) .service) }
+          subst (λ t. Service-only-shrinks (ctc-meaning s) (ctc-meaning t)) (sym (c .write-port .ensures .after))
+          (ctc-sentences .write-moves s (c .args .port) (c .args .byte) .service);
+    }

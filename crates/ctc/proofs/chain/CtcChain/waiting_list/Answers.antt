@@ -5,4 +5,5 @@ pub returns : need.returns
 returns c =
     record {
       answer = list-answer-is (c .args .self .now) _ (c .waiting-ranks .ensures) _ _ (c .list-vectors .ensures .answer);
-      bytes = listed-is (c .args .self .now) _ (c .waiting-ranks .ensures) _ _ (c .list-vectors .ensures .bytes) }
+      bytes = listed-is (c .args .self .now) _ (c .waiting-ranks .ensures) _ _ (c .list-vectors .ensures .bytes);
+    }
