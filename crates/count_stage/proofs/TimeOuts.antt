@@ -1,6 +1,7 @@
--- From a fresh start, the time-outs are the clocks whose number is a multiple of divisor × constant.
+-- From a fresh start, the time-outs are the clocks whose number is a multiple of divisor × constant, and the count steps
+-- whose number is a multiple of the constant.
 use Prim.Native.Nat.{ℕ, zero, suc, _+_, _-_, _*_, _%_, _<_, _≤_}
-use native.Mathlib.Nat.{suc-mod, mod-eq-of-lt, mod-self, zero-mod, mul-comm, suc-mul, sub-zero}
+use native.Mathlib.Nat.{suc-mod, mod-eq-of-lt, mod-self, zero-mod, mul-comm, suc-mul, one-mul, sub-zero}
 use native.Mathlib.Numerals.{add-one}
 use native.Mathlib.Omega.{arith}
 use mathlib.Core.Bool.{Bool, true, false, cond}
@@ -10,8 +11,8 @@ use lib.Dec.{ltb, eqb}
 use Rattle.std.proofs.shelf.Bits.{mod-below}
 use Rattle.std.proofs.shelf.Tests.{lt-ltb, le-ltb, eq-eqb, ne-eqb, cases-eq, cases-lt}
 use Rattle.count_stage.specs.declared.CountStage.{CountStage}
-use Rattle.count_stage.specs.Stage.{count-of, started, clock-times-out, clocked}
-use Rattle.count_stage.specs.Runs.{after-clocks, Times-out-at-every-multiple}
+use Rattle.count_stage.specs.Stage.{count-of, started, step-times-out, stepped, clock-times-out, clocked}
+use Rattle.count_stage.specs.Runs.{after-clocks, after-steps}
 
 -- a stage whose counter makes u more count steps before the one that times out
 abbrev at : ℕ → ℕ → ℕ → CountStage
@@ -36,6 +37,9 @@ zero-is-256 c h = at-either (cases-eq c 0)
     at-either : (c ≡ 0) ⊎ (c ≡ 0 → ⊥) → (c ≡ (count-of c - 1 + 1) % 256) × (count-of c - 1 + 1 ≡ count-of c) × (count-of c - 1 < 256)
     at-either (inl e) = rw (eq-eqb c 0 e) (e, refl, omega arith)
     at-either (inr e) = rw (ne-eqb c 0 e) (omega arith, omega arith, omega arith)
+
+pub count-positive : (c : ℕ) → c < 256 → 0 < count-of c
+count-positive c h = omega (arith, zero-is-256 c h .1)
 
 started-due : (d c : ℕ) → c < 256 → 1 ≤ d → Due d c (d * count-of c) (started c)
 started-due d c k g =
@@ -89,7 +93,7 @@ module _ (d c : ℕ) (few : c < 256) (some : 1 ≤ d) where
   abbrev period : ℕ
   period = d * count-of c
 
-  positive : 0 < period
+  pub positive : 0 < period
   positive = let f = started-due d c few some in omega (arith, f .left, f .inside)
 
   due : (n : ℕ) → Due d c (period - n % period) (after-clocks d n (started c))
@@ -100,5 +104,21 @@ module _ (d c : ℕ) (few : c < 256) (some : 1 ≤ d) where
       (next-multiple period n positive .1 ∙ ap (λ z. period - z % period) (add-one n))
       (clock d c (period - n % period) (after-clocks d n (started c)) few (due n) .1)
 
-  pub at-every-multiple : (n : ℕ) → clock-times-out d (after-clocks d n (started c)) ≡ eqb ((n + 1) % period) 0
-  at-every-multiple n = clock d c (period - n % period) _ few (due n) .0 ∙ next-multiple period n positive .0
+  pub clocks-at-every-multiple : (n : ℕ) → clock-times-out d (after-clocks d n (started c)) ≡ eqb ((n + 1) % period) 0
+  clocks-at-every-multiple n = clock d c (period - n % period) _ few (due n) .0 ∙ next-multiple period n positive .0
+
+-- a clock by 1 is a count step
+same-by-1 : (c n : ℕ) → (after-clocks 1 n (started c) ≡ after-steps n (started c)) × (after-steps n (started c) .prescaler ≡ 0)
+unfolding after-clocks after-steps
+same-by-1 c zero = (refl, refl)
+same-by-1 c (suc n) =
+    let h = same-by-1 c n in
+    let s : CountStage = after-steps n (started c) in
+    (ap (clocked 1) (h .0) ∙ rw (le-ltb (s .prescaler + 1) 1 (omega arith)) (ap (λ p. record { constant = s .constant; counter = stepped s .counter; prescaler = p }) (sym (h .1))), h .1)
+
+pub steps-at-every-multiple : (c : ℕ) → c < 256 → (n : ℕ) → step-times-out (after-steps n (started c)) ≡ eqb ((n + 1) % count-of c) 0
+steps-at-every-multiple c few n =
+    let s : CountStage = after-steps n (started c) in
+    let h = same-by-1 c n in
+    sym (ap (λ t. cond t false (step-times-out s)) (le-ltb (s .prescaler + 1) 1 (omega arith))) ∙ ap (clock-times-out 1) (sym (h .0))
+    ∙ clocks-at-every-multiple 1 c few (omega arith) n ∙ ap (λ p. eqb ((n + 1) % p) 0) (one-mul (count-of c))

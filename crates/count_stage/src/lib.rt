@@ -1,7 +1,7 @@
 // A down-counter behind a prescaler, as the timers of the cards have.
 ghost use mathlib.Core.Path.{_≡_};
 ghost use Rattle.count_stage.specs.Stage.{started, «with-constant», «prescaler-cleared», «step-times-out», stepped, «clock-times-out», clocked};
-ghost use Rattle.count_stage.specs.Runs.{«Times-out-at-every-multiple»};
+ghost use Rattle.count_stage.specs.Runs.{«Clocks-time-out-at-every-multiple», «Steps-time-out-at-every-multiple»};
 
 #[derive(Clone, Copy)]
 pub struct CountStage {
@@ -38,7 +38,8 @@ impl CountStage {
     // A fresh start with this constant.
     pub fn start(&mut self, constant: u8)
         ensures after { λ _. ⌜ now (self .exit) ≡ started constant ⌝ }
-        ensures times_out_at_every_multiple { λ _. ⌜ Times-out-at-every-multiple constant (now (self .exit)) ⌝ }
+        ensures clocks_time_out_at_every_multiple { λ _. ⌜ Clocks-time-out-at-every-multiple constant (now (self .exit)) ⌝ }
+        ensures steps_time_out_at_every_multiple { λ _. ⌜ Steps-time-out-at-every-multiple constant (now (self .exit)) ⌝ }
     {
         *self = CountStage::fresh(constant);
     }

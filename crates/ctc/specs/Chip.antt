@@ -81,10 +81,13 @@ ctc-reset c =
       service = no-ranks;
     }
 
+-- channel k becomes x, and its request is raised or not
+abbrev pub channel-became : ℕ → Channel → Bool → Ctc → Ctc
+channel-became k x raises c = with-channel k x (cond raises (inserted (rank-of k) (c .waiting)) (c .waiting)) c
+
 -- a clock goes to every channel
 abbrev pub clocked-at : ℕ → Ctc → Ctc
-clocked-at k c =
-    with-channel k (channel-clocked (channel-at k c)) (cond (clock-raises (channel-at k c)) (inserted (rank-of k) (c .waiting)) (c .waiting)) c
+clocked-at k c = channel-became k (channel-clocked (channel-at k c)) (clock-raises (channel-at k c)) c
 
 abbrev pub ctc-clocked : Ctc → Ctc
 ctc-clocked c = clocked-at 3 (clocked-at 2 (clocked-at 1 (clocked-at 0 c)))
@@ -132,8 +135,7 @@ abbrev pub line-refusal : Ctc → ℕ → ℕ → Option Refusal
 line-refusal c port line = cond (takes c port) (cond (ltb 3 line) (Some NoSuchLine) None) (Some PortNotTaken)
 
 abbrev pub triggered-at : ℕ → Bool → Ctc → Ctc
-triggered-at k high c =
-    with-channel k (line-changed high (channel-at k c)) (cond (line-raises high (channel-at k c)) (inserted (rank-of k) (c .waiting)) (c .waiting)) c
+triggered-at k high c = channel-became k (line-changed high (channel-at k c)) (line-raises high (channel-at k c)) c
 
 abbrev pub line-set : Ctc → ℕ → ℕ → Bool → Ctc
 line-set c port line high = cond (takes c port) (cond (ltb 3 line) c (triggered-at line high c)) c

@@ -7,6 +7,7 @@ ghost use Rattle.ranks.specs.Ranks.{highest, «how-many», above, «is-some»};
 ghost use Rattle.ranks.specs.RankSets.{ranks};
 ghost use Rattle.card.specs.Refusals.{answered};
 ghost use Rattle.ctc.specs.Chip.{«new-ctc», takes, «waiting-set», «service-set», «vector-at», raised, «with-taken», «with-ended», «ctc-reset», «clocked-at», «ctc-clocked», «channel-at», «role-of», «control-set», written, «write-refusal», «read-refusal», «counter-at», «triggered-at», «line-set», «line-refusal»};
+ghost use Rattle.ctc.specs.Runs.{«Timers-request-on-time», «Counters-request-on-time»};
 use crate::channel::Channel;
 use crate::control::is_set;
 use card::Refusal;
@@ -34,6 +35,15 @@ pub struct Ctc {
 
 impl Ctc {
     pub fn new(port: u8) -> Ctc
+        ensures made { λ r. ⌜ r ≡ new-ctc port ⌝ }
+        // Of every CTC, this one in whatever state it comes to.
+        ensures timers_request_on_time { λ _. ⌜ Timers-request-on-time ⌝ }
+        ensures counters_request_on_time { λ _. ⌜ Counters-request-on-time ⌝ }
+    {
+        Ctc::made_for(port)
+    }
+
+    fn made_for(port: u8) -> Ctc
         ensures { λ r. ⌜ r ≡ new-ctc port ⌝ }
     {
         Ctc {

@@ -1,0 +1,55 @@
+-- When a channel requests: laws over runs of clocks and of trigger pulses.
+use Prim.Native.Nat.{ℕ, zero, suc, _+_, _*_, _<_}
+use mathlib.Core.Bool.{Bool, true, false, not, _&&_, _||_}
+use mathlib.Core.Path.{_≡_}
+use lib.Dec.{leb}
+use lib.ListN.{length}
+use Rattle.ranks.specs.RankSets.{ranks}
+use Rattle.count_stage.specs.Stage.{count-of}
+use Rattle.ctc.specs.declared.channel.Phase.the-variants.{Stopped}
+use Rattle.ctc.specs.declared.control.Control.{Control}
+use Rattle.ctc.specs.declared.chip.Ctc.{Ctc}
+use Rattle.ctc.specs.ControlWords.{divisor-of, starts-armed}
+use Rattle.ctc.specs.Chip.{takes, channel-of, channel-at, rank-of, waiting-set, written, ctc-clocked, triggered-at}
+
+-- the card after n calls that each make next c of c
+unfoldable pub after : ℕ → (Ctc → Ctc) → Ctc → Ctc
+after zero next c = c
+after (suc n) next c = next (after n next c)
+
+-- the trigger line of channel k goes to the level that does not act, and then to the one that does
+abbrev pub pulsed : ℕ → Ctc → Ctc
+pulsed k c =
+    let acting : Bool = channel-at k c .control .rising in
+    triggered-at k acting (triggered-at k (not acting) c)
+
+-- the request of channel k waits
+abbrev pub requests : ℕ → Ctc → Bool
+requests k c = ranks (waiting-set c) (rank-of k)
+
+abbrev pub control-at : ℕ → Ctc → Control
+control-at port c = channel-at (channel-of port) c .control
+
+-- a constant that, written to the port, sets its channel running at once
+pub record Starts (c : Ctc) (port constant : ℕ) : Type 0 where
+  pub four-channels : length (c .channels) ≡ 4
+  pub takes-port : takes c port ≡ true
+  pub is-byte : constant < 256
+  pub awaited : channel-at (channel-of port) c .awaits ≡ true
+  pub stopped : channel-at (channel-of port) c .phase ≡ Stopped
+  pub not-armed : starts-armed (control-at port c) ≡ false
+
+-- In timer mode the channel then requests, if bit 7 is set, from clock divisor × constant on and not before, unless its
+-- request waited already; a constant of 0 counts as 256.
+abbrev pub Timers-request-on-time : Type 0
+Timers-request-on-time =
+    (c : Ctc) (port constant n : ℕ) → Starts c port constant → control-at port c .counter ≡ false
+    → requests (channel-of port) (after n ctc-clocked (written c port constant))
+    ≡ (requests (channel-of port) c || (control-at port c .interrupt && leb (divisor-of (control-at port c) * count-of constant) n))
+
+-- In counter mode it does so from pulse constant on, where each pulse is one edge that acts.
+abbrev pub Counters-request-on-time : Type 0
+Counters-request-on-time =
+    (c : Ctc) (port constant n : ℕ) → Starts c port constant → control-at port c .counter ≡ true
+    → requests (channel-of port) (after n (pulsed (channel-of port)) (written c port constant))
+    ≡ (requests (channel-of port) c || (control-at port c .interrupt && leb (count-of constant) n))
