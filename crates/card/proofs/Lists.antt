@@ -2,15 +2,16 @@
 use Prim.Native.Nat.{ℕ, suc, _+_, _<_, _≤_}
 use native.Mathlib.Numerals.{add-one}
 use native.Mathlib.Omega.{arith}
-use mathlib.Core.Bool.{Bool, true, false}
+use mathlib.Core.Bool.{Bool, true, false, cond}
 use mathlib.Core.List.{List, [], _∷_, _++_}
 use mathlib.Core.Path.{_≡_, refl, sym, _∙_, ap, ap₂, subst, subst₂}
 use lib.Dec.{ltb}
 use lib.ListN.{length, take, drop, set, getD}
 use Rattle.std.proofs.shelf.Lists.{append-assoc, append-nil, length-set, take-append-drop, take-more, take-set-le, drop-set-lt, drop-drop, getD-set-same}
-use Rattle.std.proofs.shelf.Tests.{lt-ltb, le-ltb, cond-true, cond-false}
+use Rattle.std.proofs.shelf.Tests.{ltb-false, cond-true, cond-false}
 use Rattle.std.specs.declared.option.Option.the-variants.{Some, None}
 use Rattle.std.specs.declared.result.Result.the-variants.{Ok, Err}
+use Rattle.card.specs.declared.refusals.Refusal.{Refusal}
 use Rattle.card.specs.declared.refusals.Refusal.the-variants.{TooFewPlaces}
 use Rattle.card.specs.Listing.{places-of, list-answer, listed-into}
 use Rattle.ranks.specs.declared.set.RankSet.{RankSet}
@@ -55,8 +56,8 @@ module _ (v : ℕ → ℕ) where
               drop-set-lt (i + 1) now i (v r) (omega arith) ∙ sym (drop-drop 1 i now) ∙ ap (drop 1) (h .behind) ∙ drop-drop 1 i buffer;
         }
 
-    pub put-next : (r x : ℕ) (t : RankSet) → Some r ≡ highest 16 (ranks left) → i < length now → x ≡ v r → t ≡ removed r left → Putting all buffer (i + 1) t (set now i x)
-    put-next r x t e l p q = subst₂ (λ u y. Putting all buffer (i + 1) u (set now i y)) (sym q) (sym p) (next r e l)
+    pub put-next : (r x : ℕ) (t : RankSet) (after : List ℕ) → Some r ≡ highest 16 (ranks left) → i < length now → x ≡ v r → t ≡ removed r left → after ≡ set now i x → Putting all buffer (i + 1) t after
+    put-next r x t after e l p q o = subst₂ (Putting all buffer (i + 1)) (sym q) (sym (o ∙ ap (set now i) p)) (next r e l)
 
     pub all-put : None ≡ highest 16 (ranks left) → now ≡ from-the-top 16 (ranks all) v ++ drop (how-many 16 (ranks all)) buffer
     all-put e =
@@ -66,15 +67,26 @@ module _ (v : ℕ → ℕ) where
         sym (take-append-drop i now)
         ∙ ap₂ _++_ (sym (append-nil (take i now)) ∙ ap (λ x. take i now ++ x) (sym none) ∙ h .put) (h .behind ∙ ap (λ n. drop n buffer) whole)
 
--- the answer and the buffer, where the list is refused and where it is put
-pub refused : (n places : ℕ) (bytes buffer : List ℕ) → places ≡ places-of buffer → length bytes ≡ n → places < n → (Err TooFewPlaces ≡ list-answer n buffer) × (buffer ≡ listed-into bytes buffer)
-refused n places bytes buffer e k l =
-    let q : ltb (places-of buffer) n ≡ true = lt-ltb (places-of buffer) n (omega arith) in
-    let u : ltb (places-of buffer) (length bytes) ≡ true = ap (ltb (places-of buffer)) k ∙ q in
-    (sym (cond-true _ _ _ q), sym (cond-true _ _ _ u))
+-- what a list's answer tells of the places
+pub refused-for-places : (n : ℕ) (buffer : List ℕ) (why : Refusal) → Err why ≡ list-answer n buffer → ltb (places-of buffer) n ≡ true
+refused-for-places n buffer why e = at (ltb (places-of buffer) n) e
+  where
+    at : (t : Bool) → Err why ≡ cond t (Err TooFewPlaces) (Ok n) → t ≡ true
+    at true h = refl
+    at false h = cc
 
-pub accepted : (n places : ℕ) (bytes buffer now : List ℕ) → places ≡ places-of buffer → length bytes ≡ n → n ≤ places → now ≡ bytes ++ drop n buffer → (Ok n ≡ list-answer n buffer) × (now ≡ listed-into bytes buffer)
-accepted n places bytes buffer now e k l h =
-    let q : ltb (places-of buffer) n ≡ false = le-ltb (places-of buffer) n (omega arith) in
-    let u : ltb (places-of buffer) (length bytes) ≡ false = ap (ltb (places-of buffer)) k ∙ q in
-    (sym (cond-false _ _ _ q), h ∙ ap (λ z. bytes ++ drop z buffer) (sym k) ∙ sym (cond-false _ _ _ u))
+pub accepted-for-places : (n k : ℕ) (buffer : List ℕ) → Ok k ≡ list-answer n buffer → ltb (places-of buffer) n ≡ false
+accepted-for-places n k buffer e = at (ltb (places-of buffer) n) e
+  where
+    at : (t : Bool) → Ok k ≡ cond t (Err TooFewPlaces) (Ok n) → t ≡ false
+    at false h = refl
+    at true h = cc
+
+pub accepted-fits : (n m k : ℕ) (buffer : List ℕ) → m ≡ n → Ok k ≡ list-answer m buffer → n ≤ length buffer
+accepted-fits n m k buffer p e = let l = ltb-false (places-of buffer) m (accepted-for-places m k buffer e) in omega arith
+
+pub not-listed : (n : ℕ) (bytes buffer : List ℕ) → length bytes ≡ n → ltb (places-of buffer) n ≡ true → buffer ≡ listed-into bytes buffer
+not-listed n bytes buffer k t = sym (cond-true _ _ _ (ap (ltb (places-of buffer)) k ∙ t))
+
+pub listed : (n : ℕ) (bytes buffer now : List ℕ) → length bytes ≡ n → ltb (places-of buffer) n ≡ false → now ≡ bytes ++ drop n buffer → now ≡ listed-into bytes buffer
+listed n bytes buffer now k t h = h ∙ ap (λ z. bytes ++ drop z buffer) (sym k) ∙ sym (cond-false _ _ _ (ap (ltb (places-of buffer)) k ∙ t))

@@ -1,8 +1,8 @@
 // The waiting list of a card with up to sixteen ranks.
 ghost use mathlib.Core.Path.{_≡_};
-ghost use Prim.Native.Nat.{ℕ, _≤_};
+ghost use Prim.Native.Nat.{ℕ, _<_, _≤_};
 ghost use mathlib.Core.List.{_++_};
-ghost use lib.ListN.{length, drop};
+ghost use lib.ListN.{length, drop, set};
 ghost use Rattle.ranks.specs.Ranks.{«how-many», «from-the-top»};
 ghost use Rattle.ranks.specs.RankSets.{ranks};
 ghost use Rattle.card.specs.Listing.{«places-of», «list-answer», «listed-into»};
@@ -24,6 +24,17 @@ pub fn places(buffer: &[u8]) -> usize
     buffer.len().min(4096)
 }
 
+// Whether a list of so many bytes fits into the buffer.
+pub fn check_room(count: u16, buffer: &[u8]) -> Result<u16, Refusal>
+    ensures { λ r. ⌜ r ≡ list-answer count (now (buffer .entry)) ⌝ }
+{
+    if count as usize > places(buffer) {
+        Err(Refusal::TooFewPlaces)
+    } else {
+        Ok(count)
+    }
+}
+
 // Puts the vectors of these ranks at the front of the buffer, the highest rank's first; answers how many they are.
 pub fn list_vectors<C: Vectors>(
     card: &C,
@@ -33,12 +44,13 @@ pub fn list_vectors<C: Vectors>(
     ensures answer { λ r. ⌜ r ≡ list-answer (how-many 16 (ranks waiting)) (now (buffer .entry)) ⌝ }
     ensures bytes { λ _. ⌜ now (buffer .exit) ≡ listed-into (from-the-top 16 (ranks waiting) (C·Vectors .vectors (now (card .entry)))) (now (buffer .entry)) ⌝ }
 {
-    let count = waiting.len();
-    if count as usize > places(buffer) {
-        return Err(Refusal::TooFewPlaces);
+    match check_room(waiting.len(), buffer) {
+        Ok(count) => {
+            put_vectors(card, waiting, buffer);
+            Ok(count)
+        }
+        Err(refusal) => Err(refusal),
     }
-    put_vectors(card, waiting, buffer);
-    Ok(count)
 }
 
 fn put_vectors<C: Vectors>(card: &C, waiting: RankSet, buffer: &mut [u8])
@@ -48,8 +60,15 @@ fn put_vectors<C: Vectors>(card: &C, waiting: RankSet, buffer: &mut [u8])
     let mut left = waiting;
     let mut place = 0;
     while let Some(rank) = left.highest() {
-        buffer[place] = card.vector(rank);
+        put(buffer, place, card.vector(rank));
         left.remove(rank);
         place += 1;
     }
+}
+
+fn put(buffer: &mut [u8], place: usize, byte: u8)
+    requires { ⌜ place < length (now buffer) ⌝ }
+    ensures { λ _. ⌜ now (buffer .exit) ≡ set (now (buffer .entry)) place byte ⌝ }
+{
+    buffer[place] = byte;
 }

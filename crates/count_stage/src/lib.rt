@@ -81,7 +81,7 @@ impl CountStage {
             self.prescaler = count as u16;
             false
         } else {
-            self.prescaler = 0;
+            self.clear_prescaler();
             self.step()
         }
     }

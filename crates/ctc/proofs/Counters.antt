@@ -8,12 +8,12 @@ use Rattle.count_stage.specs.declared.CountStage.{CountStage}
 use Rattle.count_stage.specs.Stage.{count-of, started, stepped, step-times-out}
 use Rattle.count_stage.specs.Runs.{after-steps}
 use Rattle.count_stage.proofs.TimeOuts.{count-positive, steps-at-every-multiple}
-use Rattle.ctc.specs.declared.control.Control.{Control}
-use Rattle.ctc.specs.declared.channel.Phase.the-variants.{Running}
-use Rattle.ctc.specs.declared.channel.Channel.{Channel}
+use Rattle.ctc_channel.specs.declared.control.Control.{Control}
+use Rattle.ctc_channel.specs.declared.channel.Phase.the-variants.{Running}
+use Rattle.ctc_channel.specs.declared.channel.Channel.{Channel}
 use Rattle.ctc.specs.declared.chip.Ctc.{Ctc}
-use Rattle.ctc.specs.ControlWords.{differ, edge-acts}
-use Rattle.ctc.specs.Channels.{line-changed, line-raises, constant-taken}
+use Rattle.ctc_channel.specs.ControlWords.{differ, edge-acts}
+use Rattle.ctc_channel.specs.Channels.{line-changed, line-raises, constant-taken}
 use Rattle.ctc.specs.Chip.{channel-of, channel-at, triggered-at, written}
 use Rattle.ctc.specs.Runs.{after, pulsed, requests, Counters-request-on-time}
 use Rattle.ctc.proofs.Requests.{Seen, seen-there, seen-after, channel-below, seen-started, fresh-start, runs, or-false}

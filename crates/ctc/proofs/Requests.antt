@@ -15,12 +15,12 @@ use Rattle.ranks.specs.Ranks.{adding}
 use Rattle.ranks.specs.RankSets.{ranks, inserted, intersected}
 use Rattle.ranks.proofs.RankSets.{inserted-in-both}
 use Rattle.count_stage.specs.Stage.{started, with-constant}
-use Rattle.ctc.specs.declared.channel.Phase.the-variants.{Stopped, Armed, Running}
-use Rattle.ctc.specs.declared.channel.Channel.{Channel}
+use Rattle.ctc_channel.specs.declared.channel.Phase.the-variants.{Stopped, Armed, Running}
+use Rattle.ctc_channel.specs.declared.channel.Channel.{Channel}
 use Rattle.ctc.specs.declared.chip.Role.the-variants.{Constant, ControlWord, VectorHead, NotAwaited}
 use Rattle.ctc.specs.declared.chip.Ctc.{Ctc}
-use Rattle.ctc.specs.ControlWords.{is-control-word, starts-armed}
-use Rattle.ctc.specs.Channels.{is-stopped, new-channel, constant-taken}
+use Rattle.ctc_channel.specs.ControlWords.{is-control-word, starts-armed}
+use Rattle.ctc_channel.specs.Channels.{is-stopped, new-channel, constant-taken}
 use Rattle.ctc.specs.Chip.{takes, channel-of, channel-at, rank-of, four-ranks, channel-became, role-in, written-as, written}
 use Rattle.ctc.specs.Runs.{after, requests, Starts}
 use Rattle.ctc.proofs.FourRanks.{four}

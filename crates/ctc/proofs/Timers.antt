@@ -8,10 +8,10 @@ use Rattle.count_stage.specs.declared.CountStage.{CountStage}
 use Rattle.count_stage.specs.Stage.{count-of, started, clocked, clock-times-out}
 use Rattle.count_stage.specs.Runs.{after-clocks}
 use Rattle.count_stage.proofs.TimeOuts.{positive, clocks-at-every-multiple}
-use Rattle.ctc.specs.declared.channel.Channel.{Channel}
+use Rattle.ctc_channel.specs.declared.channel.Channel.{Channel}
 use Rattle.ctc.specs.declared.chip.Ctc.{Ctc}
-use Rattle.ctc.specs.ControlWords.{divisor-of}
-use Rattle.ctc.specs.Channels.{is-running, with-stage, counts-clocks, channel-clocked, clock-raises, constant-taken}
+use Rattle.ctc_channel.specs.ControlWords.{divisor-of}
+use Rattle.ctc_channel.specs.Channels.{is-running, with-stage, counts-clocks, channel-clocked, clock-raises, constant-taken}
 use Rattle.ctc.specs.Chip.{channel-of, channel-at, clocked-at, ctc-clocked, written}
 use Rattle.ctc.specs.Runs.{after, requests, Timers-request-on-time}
 use Rattle.ctc.proofs.Requests.{Seen, seen-beside, seen-there, seen-after, channel-below, seen-started, fresh-start, runs}

@@ -11,12 +11,12 @@ use Rattle.ranks.specs.Ranks.{bit}
 use Rattle.ranks.specs.RankSets.{inserted, removed, intersected}
 use Rattle.card.specs.declared.refusals.Refusal.{Refusal}
 use Rattle.card.specs.declared.refusals.Refusal.the-variants.{PortNotTaken, NoSuchLine, ByteNotAwaited}
-use Rattle.ctc.specs.declared.channel.Channel.{Channel}
+use Rattle.ctc_channel.specs.declared.channel.Channel.{Channel}
 use Rattle.ctc.specs.declared.chip.Role.{Role}
 use Rattle.ctc.specs.declared.chip.Role.the-variants.{Constant, ControlWord, VectorHead, NotAwaited}
 use Rattle.ctc.specs.declared.chip.Ctc.{Ctc}
-use Rattle.ctc.specs.ControlWords.{is-control-word}
-use Rattle.ctc.specs.Channels.{new-channel, channel-reset, constant-taken, control-taken, channel-clocked, clock-raises, line-changed, line-raises}
+use Rattle.ctc_channel.specs.ControlWords.{is-control-word}
+use Rattle.ctc_channel.specs.Channels.{new-channel, channel-reset, constant-taken, control-taken, channel-clocked, clock-raises, line-changed, line-raises}
 
 -- the four ports from the card's port with its low two bits cleared, one a channel
 abbrev pub takes : Ctc → ℕ → Bool

@@ -6,10 +6,10 @@ use lib.Dec.{leb}
 use lib.ListN.{length}
 use Rattle.ranks.specs.RankSets.{ranks}
 use Rattle.count_stage.specs.Stage.{count-of}
-use Rattle.ctc.specs.declared.channel.Phase.the-variants.{Stopped}
-use Rattle.ctc.specs.declared.control.Control.{Control}
+use Rattle.ctc_channel.specs.declared.channel.Phase.the-variants.{Stopped}
+use Rattle.ctc_channel.specs.declared.control.Control.{Control}
 use Rattle.ctc.specs.declared.chip.Ctc.{Ctc}
-use Rattle.ctc.specs.ControlWords.{divisor-of, starts-armed}
+use Rattle.ctc_channel.specs.ControlWords.{divisor-of, starts-armed}
 use Rattle.ctc.specs.Chip.{takes, channel-of, channel-at, rank-of, waiting-set, written, ctc-clocked, triggered-at}
 
 -- the card after n calls that each make next c of c

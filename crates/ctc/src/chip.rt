@@ -8,9 +8,9 @@ ghost use Rattle.ranks.specs.RankSets.{ranks};
 ghost use Rattle.card.specs.Refusals.{answered};
 ghost use Rattle.ctc.specs.Chip.{«new-ctc», takes, «waiting-set», «service-set», «vector-at», raised, «with-taken», «with-ended», «ctc-reset», «clocked-at», «ctc-clocked», «channel-at», «role-of», «control-set», written, «write-refusal», «read-refusal», «counter-at», «triggered-at», «line-set», «line-refusal»};
 ghost use Rattle.ctc.specs.Runs.{«Timers-request-on-time», «Counters-request-on-time»};
-use crate::channel::Channel;
-use crate::control::is_set;
 use card::Refusal;
+use ctc_channel::Channel;
+use ctc_channel::is_control_word;
 use ranks::RankSet;
 
 // What a byte is to the channel that it is written to.
@@ -184,7 +184,7 @@ impl Ctc {
     {
         if self.channels[channel].awaits_constant() {
             Role::Constant
-        } else if is_set(byte, 0) {
+        } else if is_control_word(byte) {
             Role::ControlWord
         } else if channel == 0 {
             Role::VectorHead
@@ -198,7 +198,7 @@ impl Ctc {
         ensures { λ _. ⌜ now (self .exit) ≡ control-set channel word (now (self .entry)) ⌝ }
     {
         self.channels[channel].take_control_word(word);
-        if !is_set(word, 7) {
+        if !self.channels[channel].interrupts() {
             self.waiting.remove(3 - channel as u8);
         }
     }

@@ -1,9 +1,7 @@
 // The CTC card: four channels that count clocks or edges of their trigger lines.
 pub mod bus;
 pub mod chain;
-pub mod channel;
 pub mod chip;
-pub mod control;
 
 pub use bus::CtcBus;
 pub use chain::CtcChain;

@@ -128,15 +128,22 @@ module _ (a : ℕ) (h : a < 65536) where
   unfolding below
   all-bits k l = rw (lt-ltb k 16 l)
 
-  pub highest-found : 0 < a → highest 16 (below 16 (bit a)) ≡ Some (15 - leadingZeros 16 a)
+  highest-found : 0 < a → highest 16 (below 16 (bit a)) ≡ Some (15 - leadingZeros 16 a)
   highest-found p = highest-agrees 16 _ _ all-bits ∙ highest-bit 16 a p h
 
   pub all-counted : how-many 16 (below 16 (bit a)) ≡ ones a
   all-counted = how-many-agrees 16 _ _ all-bits ∙ how-many-bits 16 a h
 
-pub none-found : highest 16 (below 16 (bit 0)) ≡ None
+none-found : highest 16 (below 16 (bit 0)) ≡ None
 unfolding empty
 none-found = ap (highest 16) ranks-none ∙ highest-none 16 empty (λ k l. refl)
+
+pub top-found : (a : ℕ) → a < 65536 → cond (eqb a 0) None (Some (15 - leadingZeros 16 a)) ≡ highest 16 (below 16 (bit a))
+top-found a h = at (cases-eq a 0)
+  where
+    at : (a ≡ 0) ⊎ (a ≡ 0 → ⊥) → cond (eqb a 0) None (Some (15 - leadingZeros 16 a)) ≡ highest 16 (below 16 (bit a))
+    at (inl e) = rw (e, none-found)
+    at (inr e) = rw (ne-eqb a 0 e, highest-found a h (omega arith))
 
 pub empty-tested : (a : ℕ) → a < 65536 → eqb a 0 ≡ not (is-some (highest 16 (below 16 (bit a))))
 unfolding is-some

@@ -1,16 +1,21 @@
 // Sixteen bits, as the machine tests and counts them.
 ghost use mathlib.Core.Path.{_≡_};
-ghost use Prim.Native.Nat.{_<_, _-_};
-ghost use lib.Dec.{ltb};
+ghost use mathlib.Core.Bool.{cond};
+ghost use Prim.Native.Nat.{_-_};
+ghost use lib.Dec.{eqb, ltb};
 ghost use lib.Count.{leadingZeros, ones};
+ghost use Rattle.std.specs.declared.option.Option.the-variants.{Some, None};
 ghost use Rattle.ranks.specs.RankSets.{«mask-of»};
 
 // The number of the highest bit that is set.
-pub(crate) fn top(bits: u16) -> u8
-    requires { ⌜ 0 < bits ⌝ }
-    ensures { λ r. ⌜ r ≡ 15 - leadingZeros 16 bits ⌝ }
+pub(crate) fn top(bits: u16) -> Option<u8>
+    ensures { λ r. ⌜ r ≡ cond (eqb bits 0) None (Some (15 - leadingZeros 16 bits)) ⌝ }
 {
-    (15 - bits.leading_zeros()) as u8
+    if bits == 0 {
+        None
+    } else {
+        Some((15 - bits.leading_zeros()) as u8)
+    }
 }
 
 // Whether the highest bit of the first stands above every bit of the second.

@@ -33,11 +33,7 @@ impl RankSet {
     pub fn highest(self) -> Option<u8>
         ensures { λ r. ⌜ r ≡ highest 16 (ranks self) ⌝ }
     {
-        if self.bits == 0 {
-            None
-        } else {
-            Some(bits::top(self.bits))
-        }
+        bits::top(self.bits)
     }
 
     // Whether a rank of the set is above every rank of the other.

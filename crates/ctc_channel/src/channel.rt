@@ -1,8 +1,9 @@
 // One channel of a CTC.
 ghost use mathlib.Core.Path.{_≡_};
-ghost use Rattle.ctc.specs.Channels.{«new-channel», «channel-reset», «constant-taken», «control-taken», «clock-raises», «channel-clocked», «line-raises», «line-changed»};
+ghost use Rattle.ctc_channel.specs.Channels.{«new-channel», «channel-reset», «constant-taken», «control-taken», «clock-raises», «channel-clocked», «line-raises», «line-changed»};
 use crate::control::Control;
-use crate::control::is_set;
+use crate::control::constant_follows;
+use crate::control::stops;
 use count_stage::CountStage;
 
 #[derive(Clone, Copy)]
@@ -25,7 +26,7 @@ pub struct Channel {
 }
 
 impl Channel {
-    pub(crate) fn new() -> Channel
+    pub fn new() -> Channel
         ensures { λ r. ⌜ r ≡ new-channel ⌝ }
     {
         Channel {
@@ -37,7 +38,7 @@ impl Channel {
         }
     }
 
-    pub(crate) fn reset(&mut self)
+    pub fn reset(&mut self)
         ensures { λ _. ⌜ now (self .exit) ≡ channel-reset (now (self .entry)) ⌝ }
     {
         self.stage.clear_prescaler();
@@ -46,19 +47,26 @@ impl Channel {
         self.awaits = false;
     }
 
-    pub(crate) fn counter(&self) -> u8
+    pub fn counter(&self) -> u8
         ensures { λ r. ⌜ r ≡ now (self .entry) .stage .counter ⌝ }
     {
         self.stage.counter()
     }
 
-    pub(crate) fn awaits_constant(&self) -> bool
+    pub fn awaits_constant(&self) -> bool
         ensures { λ r. ⌜ r ≡ now (self .entry) .awaits ⌝ }
     {
         self.awaits
     }
 
-    pub(crate) fn take_constant(&mut self, constant: u8)
+    // Whether its time-outs request an interrupt.
+    pub fn interrupts(&self) -> bool
+        ensures { λ r. ⌜ r ≡ now (self .entry) .control .interrupt ⌝ }
+    {
+        self.control.interrupt()
+    }
+
+    pub fn take_constant(&mut self, constant: u8)
         ensures { λ _. ⌜ now (self .exit) ≡ constant-taken constant (now (self .entry)) ⌝ }
     {
         match self.phase {
@@ -75,7 +83,7 @@ impl Channel {
         self.awaits = false;
     }
 
-    pub(crate) fn take_control_word(&mut self, word: u8)
+    pub fn take_control_word(&mut self, word: u8)
         ensures { λ _. ⌜ now (self .exit) ≡ control-taken word (now (self .entry)) ⌝ }
     {
         let control = Control::of_word(word);
@@ -83,14 +91,14 @@ impl Channel {
             self.stage.clear_prescaler();
         }
         self.control = control;
-        self.awaits = is_set(word, 2);
-        if is_set(word, 1) {
+        self.awaits = constant_follows(word);
+        if stops(word) {
             self.phase = Phase::Stopped;
         }
     }
 
     // A clock; whether it raises the channel's request.
-    pub(crate) fn clock(&mut self) -> bool
+    pub fn clock(&mut self) -> bool
         ensures raises { λ r. ⌜ r ≡ clock-raises (now (self .entry)) ⌝ }
         ensures after { λ _. ⌜ now (self .exit) ≡ channel-clocked (now (self .entry)) ⌝ }
     {
@@ -103,7 +111,7 @@ impl Channel {
     }
 
     // A change of the trigger line; whether it raises the channel's request.
-    pub(crate) fn change_line(&mut self, high: bool) -> bool
+    pub fn change_line(&mut self, high: bool) -> bool
         ensures raises { λ r. ⌜ r ≡ line-raises high (now (self .entry)) ⌝ }
         ensures after { λ _. ⌜ now (self .exit) ≡ line-changed high (now (self .entry)) ⌝ }
     {

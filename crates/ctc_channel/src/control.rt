@@ -2,7 +2,7 @@
 ghost use mathlib.Core.Path.{_≡_};
 ghost use Prim.Native.Nat.{_<_};
 ghost use Rattle.ranks.specs.Ranks.{bit};
-ghost use Rattle.ctc.specs.ControlWords.{cleared, «control-of», «divisor-of», «prescaler-restarts», «starts-armed», «edge-acts»};
+ghost use Rattle.ctc_channel.specs.ControlWords.{«is-control-word», stops, «constant-follows», cleared, «control-of», «divisor-of», «prescaler-restarts», «starts-armed», «edge-acts»};
 
 // The bits of a control word that a channel keeps.
 #[derive(Clone, Copy)]
@@ -19,7 +19,7 @@ pub struct Control {
 }
 
 impl Control {
-    pub(crate) fn cleared() -> Control
+    pub fn cleared() -> Control
         ensures { λ r. ⌜ r ≡ cleared ⌝ }
     {
         Control {
@@ -31,7 +31,7 @@ impl Control {
         }
     }
 
-    pub(crate) fn of_word(word: u8) -> Control
+    pub fn of_word(word: u8) -> Control
         ensures { λ r. ⌜ r ≡ control-of word ⌝ }
     {
         Control {
@@ -43,47 +43,67 @@ impl Control {
         }
     }
 
-    pub(crate) fn interrupt(self) -> bool
+    pub fn interrupt(self) -> bool
         ensures { λ r. ⌜ r ≡ self .interrupt ⌝ }
     {
         self.interrupt
     }
 
-    pub(crate) fn counts_edges(self) -> bool
+    pub fn counts_edges(self) -> bool
         ensures { λ r. ⌜ r ≡ self .counter ⌝ }
     {
         self.counter
     }
 
-    pub(crate) fn divisor(self) -> u16
+    pub fn divisor(self) -> u16
         ensures { λ r. ⌜ r ≡ divisor-of self ⌝ }
     {
         if self.slow { 256 } else { 16 }
     }
 
     // Whether a change to the next control zeroes the prescaler count.
-    pub(crate) fn restarts_prescaler(self, next: Control) -> bool
+    pub fn restarts_prescaler(self, next: Control) -> bool
         ensures { λ r. ⌜ r ≡ prescaler-restarts self next ⌝ }
     {
         (self.slow != next.slow) | (self.counter != next.counter)
     }
 
     // Whether a channel that is given its constant waits for the trigger.
-    pub(crate) fn starts_armed(self) -> bool
+    pub fn starts_armed(self) -> bool
         ensures { λ r. ⌜ r ≡ starts-armed self ⌝ }
     {
         !self.counter & self.triggered
     }
 
     // Whether a change of the trigger line from one level to another is an edge that acts.
-    pub(crate) fn edge_acts(self, from: bool, to: bool) -> bool
+    pub fn edge_acts(self, from: bool, to: bool) -> bool
         ensures { λ r. ⌜ r ≡ edge-acts self from to ⌝ }
     {
         (from != to) & (to == self.rising)
     }
 }
 
-pub(crate) fn is_set(byte: u8, number: u8) -> bool
+// Whether a byte that is not awaited is a control word.
+pub fn is_control_word(byte: u8) -> bool
+    ensures { λ r. ⌜ r ≡ is-control-word byte ⌝ }
+{
+    is_set(byte, 0)
+}
+
+// What else a control word says: whether it stops the channel, and whether a constant follows.
+pub fn stops(word: u8) -> bool
+    ensures { λ r. ⌜ r ≡ stops word ⌝ }
+{
+    is_set(word, 1)
+}
+
+pub fn constant_follows(word: u8) -> bool
+    ensures { λ r. ⌜ r ≡ constant-follows word ⌝ }
+{
+    is_set(word, 2)
+}
+
+fn is_set(byte: u8, number: u8) -> bool
     requires { ⌜ number < 8 ⌝ }
     ensures { λ r. ⌜ r ≡ bit byte number ⌝ }
 {

@@ -4,11 +4,11 @@ use mathlib.Core.Bool.{Bool, true, false, not, cond, _&&_}
 use Rattle.ranks.specs.Ranks.{bit}
 use Rattle.count_stage.specs.declared.CountStage.{CountStage}
 use Rattle.count_stage.specs.Stage.{started, with-constant, prescaler-cleared, step-times-out, stepped, clock-times-out, clocked}
-use Rattle.ctc.specs.declared.control.Control.{Control}
-use Rattle.ctc.specs.declared.channel.Phase.{Phase}
-use Rattle.ctc.specs.declared.channel.Phase.the-variants.{Stopped, Armed, Running}
-use Rattle.ctc.specs.declared.channel.Channel.{Channel}
-use Rattle.ctc.specs.ControlWords.{stops, constant-follows, control-of, cleared, divisor-of, prescaler-restarts, starts-armed, edge-acts}
+use Rattle.ctc_channel.specs.declared.control.Control.{Control}
+use Rattle.ctc_channel.specs.declared.channel.Phase.{Phase}
+use Rattle.ctc_channel.specs.declared.channel.Phase.the-variants.{Stopped, Armed, Running}
+use Rattle.ctc_channel.specs.declared.channel.Channel.{Channel}
+use Rattle.ctc_channel.specs.ControlWords.{stops, constant-follows, control-of, cleared, divisor-of, prescaler-restarts, starts-armed, edge-acts}
 
 abbrev pub is-stopped : Phase → Bool
 is-stopped Stopped = true

@@ -2,7 +2,7 @@
 use Prim.Native.Nat.{ℕ}
 use mathlib.Core.Bool.{Bool, true, false, not, cond, _&&_, _||_}
 use Rattle.ranks.specs.Ranks.{bit}
-use Rattle.ctc.specs.declared.control.Control.{Control}
+use Rattle.ctc_channel.specs.declared.control.Control.{Control}
 
 -- a byte with bit 0 set is a control word
 abbrev pub is-control-word : ℕ → Bool

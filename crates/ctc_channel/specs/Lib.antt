@@ -1,0 +1,2 @@
+pub mod ControlWords
+pub mod Channels
