@@ -103,9 +103,10 @@ impl Channel {
         ensures after { λ _. ⌜ now (self .exit) ≡ channel-clocked (now (self .entry)) ⌝ }
     {
         match self.phase {
-            Phase::Running if !self.control.counts_edges() => self.stage
-                .clock(self.control.divisor())
-                & self.control.interrupt(),
+            Phase::Running if !self.control.counts_edges() => {
+                let timed_out = self.stage.clock(self.control.divisor());
+                timed_out & self.control.interrupt()
+            }
             _ => false,
         }
     }
@@ -125,8 +126,10 @@ impl Channel {
                 self.phase = Phase::Running;
                 false
             }
-            Phase::Running if self.control.counts_edges() => self.stage.step()
-                & self.control.interrupt(),
+            Phase::Running if self.control.counts_edges() => {
+                let timed_out = self.stage.step();
+                timed_out & self.control.interrupt()
+            }
             _ => false,
         }
     }
