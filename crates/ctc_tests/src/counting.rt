@@ -49,13 +49,13 @@ fn timer_mode() -> Result<(), Fail> {
                 Write(0x10, 3),
                 Clocks(20),
                 Write(0x10, 0x85),
-                Write(0x10, 2),
+                Write(0x10, 5),
                 Read(0x10, 2),
                 Clocks(27),
                 Int(false),
                 Clocks(1),
                 Int(true),
-                Read(0x10, 2),
+                Read(0x10, 5),
             ],
             // a control word that leaves bits 5 and 6 leaves the prescaler count; one that changes bit 5 zeroes it
             &[
