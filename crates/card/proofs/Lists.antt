@@ -1,12 +1,11 @@
 -- Putting vectors into a buffer, one rank after the other.
 use Prim.Native.Nat.{ℕ, suc, _+_, _<_, _≤_}
-use native.Mathlib.Numerals.{add-one}
 use native.Mathlib.Omega.{arith}
 use mathlib.Core.Bool.{Bool, true, false, cond}
 use mathlib.Core.List.{List, [], _∷_, _++_}
-use mathlib.Core.Path.{_≡_, refl, sym, _∙_, ap, ap₂, subst, subst₂}
+use mathlib.Core.Path.{_≡_, refl, sym, _∙_, ap, ap₂, subst₂}
 use lib.Dec.{ltb}
-use lib.ListN.{length, take, drop, set, getD}
+use lib.ListN.{length, take, drop, set}
 use Rattle.std.proofs.shelf.Lists.{append-assoc, append-nil, length-set, take-append-drop, take-more, take-set-le, drop-set-lt, drop-drop, getD-set-same}
 use Rattle.std.proofs.shelf.Tests.{ltb-false, cond-true, cond-false}
 use Rattle.std.specs.declared.option.Option.the-variants.{Some, None}
@@ -17,8 +16,14 @@ use Rattle.card.specs.Listing.{places-of, list-answer, listed-into}
 use Rattle.ranks.specs.declared.set.RankSet.{RankSet}
 use Rattle.ranks.specs.Ranks.{highest, how-many, from-the-top}
 use Rattle.ranks.specs.RankSets.{ranks, removed}
-use Rattle.ranks.proofs.Sets.{from-the-top-length, from-the-top-none, from-the-top-first}
+use Rattle.ranks.proofs.Sets.{from-the-top-length, from-the-top-none, from-the-top-first, one-fewer}
 use Rattle.ranks.proofs.RankSets.{ranks-removed}
+
+one-fewer-left : (s : RankSet) (r : ℕ) → Some r ≡ highest 16 (ranks s) → how-many 16 (ranks s) ≡ suc (how-many 16 (ranks (removed r s)))
+one-fewer-left s r e = one-fewer 16 (ranks s) r e ∙ ap (λ p. suc (how-many 16 p)) (sym (ranks-removed r s))
+
+pub fewer-left : (s t : RankSet) (r : ℕ) → Some r ≡ highest 16 (ranks s) → t ≡ removed r s → how-many 16 (ranks t) < how-many 16 (ranks s)
+fewer-left s t r e q = let f = one-fewer-left s r e in let g = ap (λ u. how-many 16 (ranks u)) q in omega arith
 
 module _ (v : ℕ → ℕ) where
   -- i bytes of the list of all are put, and those of left are to come; buffer was the buffer at first
@@ -30,19 +35,13 @@ module _ (v : ℕ → ℕ) where
   next-listed : (s : RankSet) (r : ℕ) → Some r ≡ highest 16 (ranks s) → from-the-top 16 (ranks s) v ≡ v r ∷ from-the-top 16 (ranks (removed r s)) v
   next-listed s r e = from-the-top-first 16 (ranks s) v r e ∙ ap (λ p. v r ∷ from-the-top 16 p v) (sym (ranks-removed r s))
 
-  pub one-fewer : (s : RankSet) (r : ℕ) → Some r ≡ highest 16 (ranks s) → how-many 16 (ranks s) ≡ suc (how-many 16 (ranks (removed r s)))
-  one-fewer s r e = sym (from-the-top-length 16 (ranks s) v) ∙ ap length (next-listed s r e) ∙ ap suc (from-the-top-length 16 (ranks (removed r s)) v)
-
-  pub fewer-left : (s t : RankSet) (r : ℕ) → Some r ≡ highest 16 (ranks s) → t ≡ removed r s → how-many 16 (ranks t) < how-many 16 (ranks s)
-  fewer-left s t r e q = let f = one-fewer s r e in let g = ap (λ u. how-many 16 (ranks u)) q in omega arith
-
   module _ (all : RankSet) (buffer : List ℕ) (i : ℕ) (left : RankSet) (now : List ℕ) (h : Putting all buffer i left now) where
     pub room-left : (r : ℕ) → Some r ≡ highest 16 (ranks left) → how-many 16 (ranks all) ≤ length buffer → length now ≡ length buffer → i < length now
-    room-left r e k l = let f = one-fewer left r e in let c = h .counted in omega arith
+    room-left r e k l = let f = one-fewer-left left r e in let c = h .counted in omega arith
 
     next : (r : ℕ) → Some r ≡ highest 16 (ranks left) → i < length now → Putting all buffer (i + 1) (removed r left) (set now i (v r))
     next r e l =
-        let fewer = one-fewer left r e in
+        let fewer = one-fewer-left left r e in
         let front : take (i + 1) (set now i (v r)) ≡ take i now ++ v r ∷ [] =
         take-more (set now i (v r)) i 0 (rw length-set l)
         ∙ ap₂ (λ x y. x ++ y ∷ []) (take-set-le i now i (v r) (omega arith)) (getD-set-same now i (v r) 0 l) in

@@ -3,7 +3,7 @@ use Prim.Native.Nat.{ℕ}
 use mathlib.Core.Bool.{Bool, not, cond, _&&_}
 use Rattle.std.specs.declared.option.Option.{Option}
 use Rattle.std.specs.declared.option.Option.the-variants.{Some, None}
-use Rattle.ranks.specs.Ranks.{adding, removing, highest, above, is-some}
+use Rattle.ranks.specs.Ranks.{adding, removing, highest, how-many, above, is-some}
 use Rattle.card.specs.declared.refusals.Refusal.{Refusal}
 
 pub record Meaning : Type 0 where
@@ -27,6 +27,10 @@ highest-waiting m = highest (m .size) (m .waiting)
 
 abbrev pub highest-in-service : Meaning → Option ℕ
 highest-in-service m = highest (m .size) (m .service)
+
+-- how many ranks wait
+abbrev pub waiting-number : Meaning → ℕ
+waiting-number m = how-many (m .size) (m .waiting)
 
 -- a waiting rank is above every rank in service
 unfoldable pub asks : Meaning → Bool
@@ -79,18 +83,18 @@ pulls iei m = iei && asks m
 unfoldable pub rank-acknowledged : Bool → Meaning → Option ℕ
 rank-acknowledged iei m = cond (pulls iei m) (highest-waiting m) None
 
-unfoldable pub answer : Bool → Meaning → Option ℕ
-answer iei m = vector-of m (rank-acknowledged iei m)
+unfoldable pub vector-answered : Bool → Meaning → Option ℕ
+vector-answered iei m = vector-of m (rank-acknowledged iei m)
 
-unfoldable pub taken : Bool → Meaning → Meaning
-taken iei m = rank-taken m (rank-acknowledged iei m)
+unfoldable pub meaning-acknowledged : Bool → Meaning → Meaning
+meaning-acknowledged iei m = rank-taken m (rank-acknowledged iei m)
 
 -- a return: with IEI high, the highest rank in service, if any, leaves it
 unfoldable pub rank-returned : Bool → Meaning → Option ℕ
 rank-returned iei m = cond iei (highest-in-service m) None
 
-unfoldable pub ended : Bool → Meaning → Meaning
-ended iei m = rank-ended m (rank-returned iei m)
+unfoldable pub meaning-returned : Bool → Meaning → Meaning
+meaning-returned iei m = rank-ended m (rank-returned iei m)
 
 -- IEO, and IEO during a return
 unfoldable pub ieo-of : Bool → Meaning → Bool

@@ -1,9 +1,8 @@
 // The two parts of the interface: a card on the interrupt chain, and the same card on the bus.
 ghost use mathlib.Core.Path.{_≡_};
 ghost use Prim.Native.Nat.{min};
-ghost use Rattle.ranks.specs.Ranks.{«how-many»};
 ghost use Rattle.card.specs.Refusals.{answered};
-ghost use Rattle.card.specs.Meaning.{Meaning, pulls, answer, «ieo-of», «ieo-during-return»};
+ghost use Rattle.card.specs.Meaning.{Meaning, «waiting-number», pulls, «vector-answered», «ieo-of», «ieo-during-return»};
 ghost use Rattle.card.specs.Listing.{«list-answer», «listed-into»};
 ghost use Rattle.card.specs.Sentences.{Rules, Sentences, «Service-only-shrinks»};
 use crate::refusals::Refusal;
@@ -32,9 +31,11 @@ pub trait Chain {
 
     // The vector of the request that the card takes, if it takes one.
     fn acknowledge(&mut self, iei: bool) -> Option<u8>
-        ensures answer { λ r. ⌜ r ≡ answer iei (meaning (now (self .entry))) ⌝ }
+        ensures answer { λ r. ⌜ r ≡ vector-answered iei (meaning (now (self .entry))) ⌝ }
         ensures after { λ _. ⌜ now (self .exit) ≡ rules .after-acknowledge (now (self .entry)) iei ⌝ };
 
+    // While the processor fetches its return from interrupt, a card that only waits lets the chain through, so that the
+    // return reaches the card in service.
     fn ieo_during_return(&self, iei: bool) -> bool
         ensures { λ r. ⌜ r ≡ ieo-during-return iei (meaning (now (self .entry))) ⌝ };
 
@@ -44,13 +45,13 @@ pub trait Chain {
     fn reset(&mut self)
         ensures { λ _. ⌜ now (self .exit) ≡ rules .after-reset (now (self .entry)) ⌝ };
 
-    // How many requests wait; 65,535 stands for more, too.
+    // How many requests wait; the count stops at 65,535.
     fn waiting_count(&self) -> u16
-        ensures { λ r. ⌜ r ≡ min (how-many (meaning (now (self .entry)) .size) (meaning (now (self .entry)) .waiting)) 65535 ⌝ };
+        ensures { λ r. ⌜ r ≡ min (waiting-number (meaning (now (self .entry)))) 65535 ⌝ };
 
-    // Puts the vector of each waiting request at the front of the buffer; answers how many they are.
+    // Puts the vector of each waiting request at the front of the buffer and answers how many they are, or refuses.
     fn waiting_list(&self, buffer: &mut [u8]) -> Result<u16, Refusal>
-        ensures answer { λ r. ⌜ r ≡ list-answer (how-many (meaning (now (self .entry)) .size) (meaning (now (self .entry)) .waiting)) (now (buffer .entry)) ⌝ }
+        ensures answer { λ r. ⌜ r ≡ list-answer (waiting-number (meaning (now (self .entry)))) (now (buffer .entry)) ⌝ }
         ensures bytes { λ _. ⌜ now (buffer .exit) ≡ listed-into (rules .waiting-bytes (now (self .entry))) (now (buffer .entry)) ⌝ };
 }
 
@@ -69,7 +70,7 @@ pub trait Bus: Chain {
         ensures after { λ _. ⌜ now (self .exit) ≡ Self·Chain .rules .«after-clock» (now (self .entry)) ⌝ }
         ensures service_only_shrinks { λ _. ⌜ Service-only-shrinks (Self·Chain .meaning (now (self .entry))) (Self·Chain .meaning (now (self .exit))) ⌝ };
 
-    // Any port of the card names it.
+    // The port says which card is meant.
     fn change_line(&mut self, port: u8, line: u8, high: bool) -> Result<(), Refusal>
         ensures answer { λ r. ⌜ r ≡ answered (Self·Chain .meaning (now (self .entry)) .«line-refusal» port line high) tt ⌝ }
         ensures after { λ _. ⌜ now (self .exit) ≡ Self·Chain .rules .«after-line» (now (self .entry)) port line high ⌝ }

@@ -24,18 +24,19 @@ pub fn places(buffer: &[u8]) -> usize
     buffer.len().min(4096)
 }
 
-// Whether a list of so many bytes fits into the buffer.
+// The count, or a refusal where a list of so many bytes does not fit into the buffer.
 pub fn check_room(count: u16, buffer: &[u8]) -> Result<u16, Refusal>
     ensures { λ r. ⌜ r ≡ list-answer count (now (buffer .entry)) ⌝ }
 {
-    if count as usize > places(buffer) {
+    if usize::from(count) > places(buffer) {
         Err(Refusal::TooFewPlaces)
     } else {
         Ok(count)
     }
 }
 
-// Puts the vectors of these ranks at the front of the buffer, the highest rank's first; answers how many they are.
+// Puts the vectors of these ranks at the front of the buffer, the highest rank's first, and answers how many they are, or
+// refuses.
 pub fn list_vectors<C: Vectors>(
     card: &C,
     waiting: RankSet,

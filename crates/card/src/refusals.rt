@@ -4,13 +4,13 @@ ghost use Rattle.card.specs.Refusals.{«number-of»};
 
 #[derive(Clone, Copy, PartialEq, Eq, Debug)]
 pub enum Refusal {
-    // No card takes the port.
+    // The card does not take the port; of a rack, none of its cards does.
     PortNotTaken,
     NoSuchLine,
     NoSuchRegister,
     // The card drives the line itself.
     LineDriven,
-    // A byte that the channel of a CTC does not await.
+    // On channels 1 to 3 of a CTC, a byte that is neither an awaited constant nor a control word.
     ByteNotAwaited,
     // An acknowledge inside an instruction.
     InsideInstruction,

@@ -4,10 +4,10 @@ use Prim.Native.Nat.{ℕ, zero, suc, _+_, _-_, _*_, _%_, _<_, _≤_}
 use native.Mathlib.Nat.{suc-mod, mod-eq-of-lt, mod-self, zero-mod, mul-comm, suc-mul, one-mul, sub-zero}
 use native.Mathlib.Numerals.{add-one}
 use native.Mathlib.Omega.{arith}
-use mathlib.Core.Bool.{Bool, true, false, cond}
+use mathlib.Core.Bool.{false, cond}
 use mathlib.Core.Logic.{_⊎_, inl, inr}
 use mathlib.Core.Path.{_≡_, refl, sym, _∙_, ap, subst}
-use lib.Dec.{ltb, eqb}
+use lib.Dec.{eqb}
 use Rattle.std.proofs.shelf.Bits.{mod-below}
 use Rattle.std.proofs.shelf.Tests.{lt-ltb, le-ltb, eq-eqb, ne-eqb, cases-eq, cases-lt}
 use Rattle.count_stage.specs.declared.CountStage.{CountStage}
@@ -31,19 +31,20 @@ record Due (d c l : ℕ) (s : CountStage) : Type 0 where
 abbrev Clock : ℕ → ℕ → ℕ → CountStage → Type 0
 Clock d c l s = (clock-times-out d s ≡ eqb l 1) × Due d c (cond (eqb l 1) (d * count-of c) (l - 1)) (clocked d s)
 
-zero-is-256 : (c : ℕ) → c < 256 → (c ≡ (count-of c - 1 + 1) % 256) × (count-of c - 1 + 1 ≡ count-of c) × (count-of c - 1 < 256)
-zero-is-256 c h = at-either (cases-eq c 0)
+-- a counter byte and the count that it stands for
+count-in-byte : (c : ℕ) → c < 256 → (c ≡ (count-of c - 1 + 1) % 256) × (count-of c - 1 + 1 ≡ count-of c) × (count-of c - 1 < 256)
+count-in-byte c h = at-either (cases-eq c 0)
   where
     at-either : (c ≡ 0) ⊎ (c ≡ 0 → ⊥) → (c ≡ (count-of c - 1 + 1) % 256) × (count-of c - 1 + 1 ≡ count-of c) × (count-of c - 1 < 256)
     at-either (inl e) = rw (eq-eqb c 0 e) (e, refl, omega arith)
     at-either (inr e) = rw (ne-eqb c 0 e) (omega arith, omega arith, omega arith)
 
 pub count-positive : (c : ℕ) → c < 256 → 0 < count-of c
-count-positive c h = omega (arith, zero-is-256 c h .1)
+count-positive c h = omega (arith, count-in-byte c h .1)
 
 started-due : (d c : ℕ) → c < 256 → 1 ≤ d → Due d c (d * count-of c) (started c)
 started-due d c k g =
-    let f = zero-is-256 c k in
+    let f = count-in-byte c k in
     let n : ℕ = count-of c - 1 in
     let w : d * count-of c ≡ n * d + (d - 0) = ap (λ z. d * z) (sym (f .1)) ∙ mul-comm d (n + 1) ∙ rw (add-one n, suc-mul n d) (omega arith) in
     record { u = n; p = 0; is = ap (λ z. record { constant = c; counter = z; prescaler = 0 }) (f .0); few = f .2; inside = g; left = w }
@@ -93,19 +94,19 @@ module _ (d c : ℕ) (few : c < 256) (some : 1 ≤ d) where
   abbrev period : ℕ
   period = d * count-of c
 
-  pub positive : 0 < period
-  positive = let f = started-due d c few some in omega (arith, f .left, f .inside)
+  pub period-positive : 0 < period
+  period-positive = let f = started-due d c few some in omega (arith, f .left, f .inside)
 
   due : (n : ℕ) → Due d c (period - n % period) (after-clocks d n (started c))
   unfolding after-clocks
   due zero = rw (zero-mod period, sub-zero period) (started-due d c few some)
   due (suc n) =
       subst (λ l. Due d c l (clocked d (after-clocks d n (started c))))
-      (next-multiple period n positive .1 ∙ ap (λ z. period - z % period) (add-one n))
+      (next-multiple period n period-positive .1 ∙ ap (λ z. period - z % period) (add-one n))
       (clock d c (period - n % period) (after-clocks d n (started c)) few (due n) .1)
 
   pub clocks-at-every-multiple : (n : ℕ) → clock-times-out d (after-clocks d n (started c)) ≡ eqb ((n + 1) % period) 0
-  clocks-at-every-multiple n = clock d c (period - n % period) _ few (due n) .0 ∙ next-multiple period n positive .0
+  clocks-at-every-multiple n = clock d c (period - n % period) _ few (due n) .0 ∙ next-multiple period n period-positive .0
 
 -- a clock by 1 is a count step
 same-by-1 : (c n : ℕ) → (after-clocks 1 n (started c) ≡ after-steps n (started c)) × (after-steps n (started c) .prescaler ≡ 0)

@@ -1,6 +1,6 @@
 -- What a count stage does at a clock and at a count step.
 use Prim.Native.Nat.{ℕ, _+_, _%_}
-use mathlib.Core.Bool.{Bool, true, false, cond}
+use mathlib.Core.Bool.{Bool, false, cond}
 use lib.Dec.{ltb, eqb}
 use Rattle.count_stage.specs.declared.CountStage.{CountStage}
 

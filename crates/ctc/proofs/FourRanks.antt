@@ -1,11 +1,10 @@
 -- A set of ranks 0 to 15 that is cut to the four ranks of a CTC.
-use Prim.Native.Nat.{ℕ, _+_, _<_, _≤_}
+use Prim.Native.Nat.{ℕ, _<_, _≤_}
 use native.Mathlib.Omega.{arith}
-use mathlib.Core.Bool.{Bool, true, false, _&&_}
-use mathlib.Core.List.{List}
-use mathlib.Core.Path.{_≡_, refl, sym, _∙_, ap}
+use mathlib.Core.Bool.{true, false, _&&_}
+use mathlib.Core.Path.{_≡_, sym, _∙_, ap}
 use lib.Dec.{ltb}
-use Rattle.std.proofs.shelf.Tests.{le-ltb, lt-ltb, ltb-true, and-right, and-parts}
+use Rattle.std.proofs.shelf.Tests.{le-ltb, ltb-true, and-right, and-parts}
 use Rattle.ranks.specs.declared.set.RankSet.{RankSet}
 use Rattle.ranks.specs.Ranks.{highest, how-many, from-the-top}
 use Rattle.ranks.specs.RankSets.{ranks, intersected}

@@ -1,12 +1,12 @@
 -- Following one channel of a CTC, and its request, through calls.
-use Prim.Native.Nat.{ℕ, zero, suc, _+_, _-_, _*_, _%_, _<_, _≤_}
+use Prim.Native.Nat.{ℕ, zero, suc, _+_, _%_, _<_, _≤_}
 use native.Mathlib.Nat.{mod-eq-of-lt, mod-self}
 use native.Mathlib.Omega.{arith}
-use mathlib.Core.Bool.{Bool, true, false, not, cond, _&&_, _||_}
+use mathlib.Core.Bool.{Bool, true, false, cond, _&&_, _||_, or-false}
 use mathlib.Core.Logic.{_⊎_, inl, inr}
-use mathlib.Core.Path.{_≡_, refl, sym, _∙_, ap, ap₂, subst, subst₂}
+use mathlib.Core.Path.{_≡_, refl, sym, _∙_, ap, subst, subst₂}
 use lib.Dec.{eqb, leb}
-use lib.ListN.{length, getD, set}
+use lib.ListN.{length}
 use Rattle.std.proofs.shelf.Lists.{length-set, getD-set-same, getD-set-other}
 use Rattle.std.proofs.shelf.Bits.{mod-below}
 use Rattle.std.proofs.shelf.Tests.{eq-eqb, ne-eqb, le-leb, lt-leb, lt-ltb, cases-lt, cases-eq, or-right, cond-true}
@@ -15,7 +15,7 @@ use Rattle.ranks.specs.Ranks.{adding}
 use Rattle.ranks.specs.RankSets.{ranks, inserted, intersected}
 use Rattle.ranks.proofs.RankSets.{inserted-in-both}
 use Rattle.count_stage.specs.Stage.{started, with-constant}
-use Rattle.ctc_channel.specs.declared.channel.Phase.the-variants.{Stopped, Armed, Running}
+use Rattle.ctc_channel.specs.declared.channel.Phase.the-variants.{Armed, Running}
 use Rattle.ctc_channel.specs.declared.channel.Channel.{Channel}
 use Rattle.ctc.specs.declared.chip.Role.the-variants.{Constant, ControlWord, VectorHead, NotAwaited}
 use Rattle.ctc.specs.declared.chip.Ctc.{Ctc}
@@ -34,10 +34,6 @@ pub record Seen (k : ℕ) (c : Ctc) (x : Channel) (w : Bool) : Type 0 where
 rank-raised : (j k : ℕ) (w : RankSet) → j < 4 → ranks (intersected (inserted (rank-of j) w) four-ranks) (rank-of k) ≡ (eqb (rank-of k) (rank-of j) || ranks (intersected w four-ranks) (rank-of k))
 unfolding adding
 rank-raised j k w h = ap (λ p. p (rank-of k)) (inserted-in-both (rank-of j) w four-ranks (omega arith) (four (rank-of j) ∙ lt-ltb (rank-of j) 4 (omega arith)))
-
-pub or-false : (t : Bool) → (t || false) ≡ t
-or-false true = refl
-or-false false = refl
 
 module _ (k : ℕ) (l : k < 4) (c : Ctc) (x : Channel) (w : Bool) (s : Seen k c x w) where
   pub seen-beside : (j : ℕ) (y : Channel) (raises : Bool) → j < 4 → (k ≡ j → ⊥) → Seen k (channel-became j y raises c) x w
@@ -75,7 +71,7 @@ first-multiple P n h = by-size (cases-lt n P) (cases-eq (n + 1) P)
         let m : (n + 1) % P ≡ n + 1 = mod-eq-of-lt (omega arith) in
         rw (lt-leb P n l, lt-leb P (suc n) (omega arith)) (sym (ne-eqb ((n + 1) % P) 0 (λ z. omega arith)))
 
--- calls that each make one round of it: round n raises the request where n + 1 is a multiple of P, if i is set
+-- rounds of calls: round n, counted from 0, raises the request of channel k where n + 1 is a multiple of P, if i is set
 module _ (k P : ℕ) (i : Bool) (positive : 0 < P) (next : Ctc → Ctc) (channel : ℕ → Channel)
     (round : (n : ℕ) (c : Ctc) (w : Bool) → Seen k c (channel n) w → Seen k (next c) (channel (suc n)) (w || (eqb ((n + 1) % P) 0 && i))) where
   next-request : (w : Bool) (n : ℕ) → ((w || (i && leb P n)) || (eqb ((n + 1) % P) 0 && i)) ≡ (w || (i && leb P (suc n)))
@@ -114,6 +110,9 @@ module _ (c : Ctc) (port t : ℕ) (starts : Starts c port t) where
   constant-written =
       cond-true (takes c port) (written-as (role-in c port t) k t c) c (starts .takes-port)
       ∙ ap (λ b. written-as (cond b Constant (cond (is-control-word t) ControlWord (cond (eqb k 0) VectorHead NotAwaited))) k t c) (starts .awaited)
+
+  pub written-takes : takes (written c port t) port ≡ true
+  written-takes = ap (λ d. takes d port) constant-written ∙ starts .takes-port
 
   pub seen-started : Seen k (written c port t) (constant-taken t before) (requests k c)
   seen-started =

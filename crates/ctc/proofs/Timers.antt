@@ -7,7 +7,7 @@ use lib.Dec.{eqb, leb}
 use Rattle.count_stage.specs.declared.CountStage.{CountStage}
 use Rattle.count_stage.specs.Stage.{count-of, started, clocked, clock-times-out}
 use Rattle.count_stage.specs.Runs.{after-clocks}
-use Rattle.count_stage.proofs.TimeOuts.{positive, clocks-at-every-multiple}
+use Rattle.count_stage.proofs.TimeOuts.{period-positive, clocks-at-every-multiple}
 use Rattle.ctc_channel.specs.declared.channel.Channel.{Channel}
 use Rattle.ctc.specs.declared.chip.Ctc.{Ctc}
 use Rattle.ctc_channel.specs.ControlWords.{divisor-of}
@@ -41,7 +41,7 @@ module _ (x : Channel) (counts : counts-clocks x ≡ true) (t : ℕ) (few : t < 
   divisor = divisor-of (x .control)
 
   positive-divisor : 1 ≤ divisor
-  positive-divisor = either-one (x .control .slow)
+  positive-divisor = either-one (x .control .«by_256»)
     where
       either-one : (b : Bool) → 1 ≤ cond b 256 16
       either-one true = omega arith
@@ -51,7 +51,7 @@ module _ (x : Channel) (counts : counts-clocks x ≡ true) (t : ℕ) (few : t < 
   abbrev ran : ℕ → Channel
   ran n = with-stage (after-clocks divisor n (started t)) x
 
-  pub not-run : with-stage (started t) x ≡ ran 0
+  not-run : with-stage (started t) x ≡ ran 0
   unfolding after-clocks
   not-run = refl
 
@@ -66,14 +66,14 @@ module _ (x : Channel) (counts : counts-clocks x ≡ true) (t : ℕ) (few : t < 
 
   requests-on-time : (k : ℕ) → k < 4 → (c : Ctc) (w : Bool) → Seen k c (ran 0) w → (n : ℕ) → Seen k (after n ctc-clocked c) (ran n) (w || (x .control .interrupt && leb (divisor * count-of t) n))
   requests-on-time k l =
-      seen-after k (divisor * count-of t) (x .control .interrupt) (positive divisor t few positive-divisor) ctc-clocked ran
+      seen-after k (divisor * count-of t) (x .control .interrupt) (period-positive divisor t few positive-divisor) ctc-clocked ran
       (λ n c w s. subst₂ (Seen k (ctc-clocked c)) (next-channel n) (ap (λ b. w || b) (next-raise n)) (seen-clock k l c (ran n) w s))
 
 pub timers-request-on-time : Timers-request-on-time
 timers-request-on-time c port t n starts timer =
     let k : ℕ = channel-of port in
     let x : Channel = constant-taken t (channel-at k c) in
-    let counts : counts-clocks x ≡ true = ap (λ p. is-running p && not (x .control .counter)) (runs c port t starts) ∙ ap not timer in
+    let counts : counts-clocks x ≡ true = ap (λ p. is-running p && not (x .control .«counter_mode»)) (runs c port t starts) ∙ ap not timer in
     let first : with-stage (x .stage) x ≡ ran x counts t (starts .is-byte) 0 = ap (λ z. with-stage z x) (fresh-start c port t starts) ∙ not-run x counts t (starts .is-byte) in
     requests-on-time x counts t (starts .is-byte) k (channel-below c port t starts) (written c port t) (requests k c)
     (subst (λ y. Seen k (written c port t) y (requests k c)) first (seen-started c port t starts)) n .requested

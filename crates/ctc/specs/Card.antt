@@ -26,13 +26,13 @@ ctc-meaning c =
     }
 
 -- the rank, if there is one, is taken or leaves service
-abbrev pub rank-taken : Option ℕ → Ctc → Ctc
-rank-taken None c = c
-rank-taken (Some r) c = with-taken r c
+abbrev pub taken-if-any : Option ℕ → Ctc → Ctc
+taken-if-any None c = c
+taken-if-any (Some r) c = with-taken r c
 
-abbrev pub rank-ended : Option ℕ → Ctc → Ctc
-rank-ended None c = c
-rank-ended (Some r) c = with-ended r c
+abbrev pub ended-if-any : Option ℕ → Ctc → Ctc
+ended-if-any None c = c
+ended-if-any (Some r) c = with-ended r c
 
 abbrev pub ctc-rules : Rules Ctc
 ctc-rules =
@@ -42,8 +42,8 @@ ctc-rules =
       byte-read = counter-at;
       after-clock = ctc-clocked;
       after-line = line-set;
-      after-acknowledge = λ c iei. rank-taken (rank-acknowledged iei (ctc-meaning c)) c;
-      after-return = λ c iei. rank-ended (rank-returned iei (ctc-meaning c)) c;
+      after-acknowledge = λ c iei. taken-if-any (rank-acknowledged iei (ctc-meaning c)) c;
+      after-return = λ c iei. ended-if-any (rank-returned iei (ctc-meaning c)) c;
       after-reset = ctc-reset;
       waiting-bytes = λ c. from-the-top 4 (ranks (waiting-set c)) (vector-at c);
     }

@@ -1,14 +1,14 @@
 -- The registers of a CTC, and what each call makes of them.
 use Prim.Native.Nat.{ℕ, _+_, _-_, _*_, _/_, _%_}
-use mathlib.Core.Bool.{Bool, true, false, not, cond, _&&_}
+use mathlib.Core.Bool.{Bool, cond}
 use mathlib.Core.List.{List, [], _∷_}
 use lib.Dec.{ltb, eqb}
 use lib.ListN.{getD, set}
 use Rattle.std.specs.declared.option.Option.{Option}
 use Rattle.std.specs.declared.option.Option.the-variants.{Some, None}
 use Rattle.ranks.specs.declared.set.RankSet.{RankSet}
-use Rattle.ranks.specs.Ranks.{bit}
-use Rattle.ranks.specs.RankSets.{inserted, removed, intersected}
+use Rattle.ranks.specs.Ranks.{bit, highest}
+use Rattle.ranks.specs.RankSets.{ranks, no-ranks, inserted, removed, intersected}
 use Rattle.card.specs.declared.refusals.Refusal.{Refusal}
 use Rattle.card.specs.declared.refusals.Refusal.the-variants.{PortNotTaken, NoSuchLine, ByteNotAwaited}
 use Rattle.ctc_channel.specs.declared.channel.Channel.{Channel}
@@ -31,6 +31,9 @@ channel-at k c = getD (c .channels) k new-channel
 abbrev pub rank-of : ℕ → ℕ
 rank-of channel = 3 - channel
 
+abbrev pub channel-ranked : ℕ → ℕ
+channel-ranked rank = 3 - rank
+
 -- the ranks of a CTC are 0 to 3
 abbrev pub four-ranks : RankSet
 four-ranks = record { bits = 15 }
@@ -41,27 +44,31 @@ waiting-set c = intersected (c .waiting) four-ranks
 abbrev pub service-set : Ctc → RankSet
 service-set c = intersected (c .service) four-ranks
 
+-- the highest rank that waits, and the highest in service
+abbrev pub top-waiting : Ctc → Option ℕ
+top-waiting c = highest 16 (ranks (waiting-set c))
+
+abbrev pub top-in-service : Ctc → Option ℕ
+top-in-service c = highest 16 (ranks (service-set c))
+
 -- bits 7 to 3 of the vector register head the vector, to which channel k adds 2 × k
 abbrev pub vector-at : Ctc → ℕ → ℕ
-vector-at c rank = c .vector / 8 * 8 + 2 * (3 - rank)
-
-abbrev pub no-ranks : RankSet
-no-ranks = record { bits = 0 }
+vector-at c rank = c .vector / 8 * 8 + 2 * channel-ranked rank
 
 abbrev pub new-ctc : ℕ → Ctc
 new-ctc port = record { port = port; vector = 0; channels = new-channel ∷ new-channel ∷ new-channel ∷ new-channel ∷ []; waiting = no-ranks; service = no-ranks }
 
-abbrev pub with-sets : RankSet → RankSet → Ctc → Ctc
-with-sets w s c = record { port = c .port; vector = c .vector; channels = c .channels; waiting = w; service = s }
+abbrev pub with-rank-sets : RankSet → RankSet → Ctc → Ctc
+with-rank-sets w s c = record { port = c .port; vector = c .vector; channels = c .channels; waiting = w; service = s }
 
 abbrev pub with-taken : ℕ → Ctc → Ctc
-with-taken r c = with-sets (removed r (c .waiting)) (inserted r (c .service)) c
+with-taken r c = with-rank-sets (removed r (c .waiting)) (inserted r (c .service)) c
 
 abbrev pub with-ended : ℕ → Ctc → Ctc
-with-ended r c = with-sets (c .waiting) (removed r (c .service)) c
+with-ended r c = with-rank-sets (c .waiting) (removed r (c .service)) c
 
 abbrev pub raised : ℕ → Ctc → Ctc
-raised k c = with-sets (inserted (rank-of k) (c .waiting)) (c .service) c
+raised k c = with-rank-sets (inserted (rank-of k) (c .waiting)) (c .service) c
 
 -- channel k becomes x, and w waits
 abbrev pub with-channel : ℕ → Channel → RankSet → Ctc → Ctc
@@ -81,7 +88,7 @@ ctc-reset c =
       service = no-ranks;
     }
 
--- channel k becomes x, and its request is raised or not
+-- channel k becomes x, and its request is raised (made to wait) or left
 abbrev pub channel-became : ℕ → Channel → Bool → Ctc → Ctc
 channel-became k x raises c = with-channel k x (cond raises (inserted (rank-of k) (c .waiting)) (c .waiting)) c
 
@@ -134,8 +141,8 @@ counter-at c port = channel-at (channel-of port) c .stage .counter
 abbrev pub line-refusal : Ctc → ℕ → ℕ → Option Refusal
 line-refusal c port line = cond (takes c port) (cond (ltb 3 line) (Some NoSuchLine) None) (Some PortNotTaken)
 
-abbrev pub triggered-at : ℕ → Bool → Ctc → Ctc
-triggered-at k high c = channel-became k (line-changed high (channel-at k c)) (line-raises high (channel-at k c)) c
+abbrev pub line-changed-at : ℕ → Bool → Ctc → Ctc
+line-changed-at k high c = channel-became k (line-changed high (channel-at k c)) (line-raises high (channel-at k c)) c
 
 abbrev pub line-set : Ctc → ℕ → ℕ → Bool → Ctc
-line-set c port line high = cond (takes c port) (cond (ltb 3 line) c (triggered-at line high c)) c
+line-set c port line high = cond (takes c port) (cond (ltb 3 line) c (line-changed-at line high c)) c

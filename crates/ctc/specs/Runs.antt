@@ -1,5 +1,5 @@
 -- When a channel requests: laws over runs of clocks and of trigger pulses.
-use Prim.Native.Nat.{ℕ, zero, suc, _+_, _*_, _<_}
+use Prim.Native.Nat.{ℕ, zero, suc, _*_, _<_}
 use mathlib.Core.Bool.{Bool, true, false, not, _&&_, _||_}
 use mathlib.Core.Path.{_≡_}
 use lib.Dec.{leb}
@@ -10,28 +10,29 @@ use Rattle.ctc_channel.specs.declared.channel.Phase.the-variants.{Stopped}
 use Rattle.ctc_channel.specs.declared.control.Control.{Control}
 use Rattle.ctc.specs.declared.chip.Ctc.{Ctc}
 use Rattle.ctc_channel.specs.ControlWords.{divisor-of, starts-armed}
-use Rattle.ctc.specs.Chip.{takes, channel-of, channel-at, rank-of, waiting-set, written, ctc-clocked, triggered-at}
+use Rattle.ctc.specs.Chip.{takes, channel-of, channel-at, rank-of, waiting-set, written, ctc-clocked, line-set}
 
--- the card after n calls that each make next c of c
+-- the card after n rounds of next
 unfoldable pub after : ℕ → (Ctc → Ctc) → Ctc → Ctc
 after zero next c = c
 after (suc n) next c = next (after n next c)
 
--- the trigger line of channel k goes to the level that does not act, and then to the one that does
+abbrev pub control-at : ℕ → Ctc → Control
+control-at port c = channel-at (channel-of port) c .control
+
+-- a pulse: the trigger line of the port's channel is changed to the level that does not act, and then to the one that does
 abbrev pub pulsed : ℕ → Ctc → Ctc
-pulsed k c =
-    let acting : Bool = channel-at k c .control .rising in
-    triggered-at k acting (triggered-at k (not acting) c)
+pulsed port c =
+    let acting : Bool = control-at port c .«rising_edge» in
+    line-set (line-set c port (channel-of port) (not acting)) port (channel-of port) acting
 
 -- the request of channel k waits
 abbrev pub requests : ℕ → Ctc → Bool
 requests k c = ranks (waiting-set c) (rank-of k)
 
-abbrev pub control-at : ℕ → Ctc → Control
-control-at port c = channel-at (channel-of port) c .control
-
 -- a constant that, written to the port, sets its channel running at once
 pub record Starts (c : Ctc) (port constant : ℕ) : Type 0 where
+  -- a list of channels, as definitions have it, may have any length
   pub four-channels : length (c .channels) ≡ 4
   pub takes-port : takes c port ≡ true
   pub is-byte : constant < 256
@@ -43,13 +44,13 @@ pub record Starts (c : Ctc) (port constant : ℕ) : Type 0 where
 -- request waited already; a constant of 0 counts as 256.
 abbrev pub Timers-request-on-time : Type 0
 Timers-request-on-time =
-    (c : Ctc) (port constant n : ℕ) → Starts c port constant → control-at port c .counter ≡ false
+    (c : Ctc) (port constant n : ℕ) → Starts c port constant → control-at port c .«counter_mode» ≡ false
     → requests (channel-of port) (after n ctc-clocked (written c port constant))
     ≡ (requests (channel-of port) c || (control-at port c .interrupt && leb (divisor-of (control-at port c) * count-of constant) n))
 
--- In counter mode it does so from pulse constant on, where each pulse is one edge that acts.
+-- In counter mode it does so from pulse constant on.
 abbrev pub Counters-request-on-time : Type 0
 Counters-request-on-time =
-    (c : Ctc) (port constant n : ℕ) → Starts c port constant → control-at port c .counter ≡ true
-    → requests (channel-of port) (after n (pulsed (channel-of port)) (written c port constant))
+    (c : Ctc) (port constant n : ℕ) → Starts c port constant → control-at port c .«counter_mode» ≡ true
+    → requests (channel-of port) (after n (pulsed port) (written c port constant))
     ≡ (requests (channel-of port) c || (control-at port c .interrupt && leb (count-of constant) n))

@@ -1,12 +1,11 @@
 // The registers of a CTC, and what its calls make of them.
 ghost use mathlib.Core.Path.{_≡_};
-ghost use mathlib.Core.Bool.{Bool, not, cond, _&&_};
+ghost use mathlib.Core.Bool.{not, cond, _&&_};
 ghost use Prim.Native.Nat.{_<_};
 ghost use Rattle.std.specs.declared.option.Option.the-variants.{None};
-ghost use Rattle.ranks.specs.Ranks.{highest, «how-many», above, «is-some»};
-ghost use Rattle.ranks.specs.RankSets.{ranks};
+ghost use Rattle.ranks.specs.Ranks.{above, «is-some»};
 ghost use Rattle.card.specs.Refusals.{answered};
-ghost use Rattle.ctc.specs.Chip.{«new-ctc», takes, «waiting-set», «service-set», «vector-at», raised, «with-taken», «with-ended», «ctc-reset», «clocked-at», «ctc-clocked», «channel-at», «role-of», «control-set», written, «write-refusal», «read-refusal», «counter-at», «triggered-at», «line-set», «line-refusal»};
+ghost use Rattle.ctc.specs.Chip.{«new-ctc», takes, «rank-of», «waiting-set», «service-set», «top-waiting», «top-in-service», «vector-at», raised, «with-taken», «with-ended», «ctc-reset», «clocked-at», «ctc-clocked», «channel-at», «role-of», «control-set», written, «write-refusal», «read-refusal», «counter-at», «line-changed-at», «line-set», «line-refusal»};
 ghost use Rattle.ctc.specs.Runs.{«Timers-request-on-time», «Counters-request-on-time»};
 use card::Refusal;
 use ctc_channel::Channel;
@@ -22,7 +21,7 @@ pub enum Role {
     NotAwaited,
 }
 
-#[derive(Clone, Copy)]
+#[derive(Drop)]
 pub struct Ctc {
     // The port that the card was made for.
     port: u8,
@@ -36,7 +35,7 @@ pub struct Ctc {
 impl Ctc {
     pub fn new(port: u8) -> Ctc
         ensures made { λ r. ⌜ r ≡ new-ctc port ⌝ }
-        // Of every CTC, this one in whatever state it comes to.
+        // The laws speak of every CTC, so of this one in any state.
         ensures timers_request_on_time { λ _. ⌜ Timers-request-on-time ⌝ }
         ensures counters_request_on_time { λ _. ⌜ Counters-request-on-time ⌝ }
     {
@@ -55,8 +54,8 @@ impl Ctc {
                 Channel::new(),
                 Channel::new(),
             ],
-            waiting: RankSet::from_bits(0),
-            service: RankSet::from_bits(0),
+            waiting: RankSet::empty(),
+            service: RankSet::empty(),
         }
     }
 
@@ -80,27 +79,27 @@ impl Ctc {
     }
 
     pub(crate) fn nothing_waits(&self) -> bool
-        ensures { λ r. ⌜ r ≡ not (is-some (highest 16 (ranks (waiting-set (now (self .entry)))))) ⌝ }
+        ensures { λ r. ⌜ r ≡ not (is-some (top-waiting (now (self .entry)))) ⌝ }
     {
         self.waiting_ranks().is_empty()
     }
 
     pub(crate) fn nothing_in_service(&self) -> bool
-        ensures { λ r. ⌜ r ≡ not (is-some (highest 16 (ranks (service-set (now (self .entry)))))) ⌝ }
+        ensures { λ r. ⌜ r ≡ not (is-some (top-in-service (now (self .entry)))) ⌝ }
     {
         self.service_ranks().is_empty()
     }
 
     // Whether a waiting rank is above every rank in service.
     pub(crate) fn asks(&self) -> bool
-        ensures { λ r. ⌜ r ≡ above (highest 16 (ranks (waiting-set (now (self .entry))))) (highest 16 (ranks (service-set (now (self .entry))))) ⌝ }
+        ensures { λ r. ⌜ r ≡ above (top-waiting (now (self .entry))) (top-in-service (now (self .entry))) ⌝ }
     {
         self.waiting_ranks().outranks(self.service_ranks())
     }
 
     // The rank that an acknowledge takes, if any.
     pub(crate) fn rank_acknowledged(&self, iei: bool) -> Option<u8>
-        ensures { λ r. ⌜ r ≡ cond (iei && above (highest 16 (ranks (waiting-set (now (self .entry))))) (highest 16 (ranks (service-set (now (self .entry)))))) (highest 16 (ranks (waiting-set (now (self .entry))))) None ⌝ }
+        ensures { λ r. ⌜ r ≡ cond (iei && above (top-waiting (now (self .entry))) (top-in-service (now (self .entry)))) (top-waiting (now (self .entry))) None ⌝ }
     {
         if iei & self.asks() {
             self.waiting_ranks().highest()
@@ -111,7 +110,7 @@ impl Ctc {
 
     // The rank whose service a return ends, if any.
     pub(crate) fn rank_returned(&self, iei: bool) -> Option<u8>
-        ensures { λ r. ⌜ r ≡ cond iei (highest 16 (ranks (service-set (now (self .entry))))) None ⌝ }
+        ensures { λ r. ⌜ r ≡ cond iei (top-in-service (now (self .entry))) None ⌝ }
     {
         if iei {
             self.service_ranks().highest()
@@ -149,15 +148,15 @@ impl Ctc {
         self.channels[1].reset();
         self.channels[2].reset();
         self.channels[3].reset();
-        self.waiting = RankSet::from_bits(0);
-        self.service = RankSet::from_bits(0);
+        self.waiting = RankSet::empty();
+        self.service = RankSet::empty();
     }
 
     fn raise(&mut self, channel: usize)
         requires { ⌜ channel < 4 ⌝ }
         ensures { λ _. ⌜ now (self .exit) ≡ raised channel (now (self .entry)) ⌝ }
     {
-        self.waiting.insert(3 - channel as u8);
+        self.waiting.insert(rank_of(channel));
     }
 
     fn clock_channel(&mut self, channel: usize)
@@ -199,7 +198,7 @@ impl Ctc {
     {
         self.channels[channel].take_control_word(word);
         if !self.channels[channel].interrupts() {
-            self.waiting.remove(3 - channel as u8);
+            self.waiting.remove(rank_of(channel));
         }
     }
 
@@ -231,7 +230,7 @@ impl Ctc {
 
     fn trigger(&mut self, channel: usize, high: bool)
         requires { ⌜ channel < 4 ⌝ }
-        ensures { λ _. ⌜ now (self .exit) ≡ triggered-at channel high (now (self .entry)) ⌝ }
+        ensures { λ _. ⌜ now (self .exit) ≡ line-changed-at channel high (now (self .entry)) ⌝ }
     {
         if self.channels[channel].change_line(high) {
             self.raise(channel);
@@ -251,4 +250,11 @@ impl Ctc {
         self.trigger(line as usize, high);
         Ok(())
     }
+}
+
+fn rank_of(channel: usize) -> u8
+    requires { ⌜ channel < 4 ⌝ }
+    ensures { λ r. ⌜ r ≡ rank-of channel ⌝ }
+{
+    3 - channel as u8
 }

@@ -1,10 +1,8 @@
 -- What the calls make of one channel.
 use Prim.Native.Nat.{ℕ}
 use mathlib.Core.Bool.{Bool, true, false, not, cond, _&&_}
-use Rattle.ranks.specs.Ranks.{bit}
 use Rattle.count_stage.specs.declared.CountStage.{CountStage}
 use Rattle.count_stage.specs.Stage.{started, with-constant, prescaler-cleared, step-times-out, stepped, clock-times-out, clocked}
-use Rattle.ctc_channel.specs.declared.control.Control.{Control}
 use Rattle.ctc_channel.specs.declared.channel.Phase.{Phase}
 use Rattle.ctc_channel.specs.declared.channel.Phase.the-variants.{Stopped, Armed, Running}
 use Rattle.ctc_channel.specs.declared.channel.Channel.{Channel}
@@ -27,11 +25,11 @@ is-running Running = true
 
 -- stopped, with all else 0
 abbrev pub new-channel : Channel
-new-channel = record { stage = started 0; control = cleared; phase = Stopped; awaits = false; trigger = false }
+new-channel = record { stage = started 0; control = cleared; phase = Stopped; awaits = false; level = false }
 
 -- a reset stops it and clears control and prescaler count; the constant, the counter and the outside level stay
 abbrev pub channel-reset : Channel → Channel
-channel-reset c = record { stage = prescaler-cleared (c .stage); control = cleared; phase = Stopped; awaits = false; trigger = c .trigger }
+channel-reset c = record { stage = prescaler-cleared (c .stage); control = cleared; phase = Stopped; awaits = false; level = c .level }
 
 -- a constant starts a stopped channel afresh; in another it takes effect at the next time-out
 abbrev pub constant-taken : ℕ → Channel → Channel
@@ -41,7 +39,7 @@ constant-taken b c =
       control = c .control;
       phase = cond (is-stopped (c .phase)) (cond (starts-armed (c .control)) Armed Running) (c .phase);
       awaits = false;
-      trigger = c .trigger;
+      level = c .level;
     }
 
 abbrev pub control-taken : ℕ → Channel → Channel
@@ -51,29 +49,29 @@ control-taken b c =
       control = control-of b;
       phase = cond (stops b) Stopped (c .phase);
       awaits = constant-follows b;
-      trigger = c .trigger;
+      level = c .level;
     }
 
 abbrev pub with-stage : CountStage → Channel → Channel
-with-stage s c = record { stage = s; control = c .control; phase = c .phase; awaits = c .awaits; trigger = c .trigger }
+with-stage s c = record { stage = s; control = c .control; phase = c .phase; awaits = c .awaits; level = c .level }
 
 -- a channel that runs in timer mode counts clocks
 abbrev pub counts-clocks : Channel → Bool
-counts-clocks c = is-running (c .phase) && not (c .control .counter)
+counts-clocks c = is-running (c .phase) && not (c .control .«counter_mode»)
 
 abbrev pub channel-clocked : Channel → Channel
 channel-clocked c = with-stage (cond (counts-clocks c) (clocked (divisor-of (c .control)) (c .stage)) (c .stage)) c
 
--- a time-out with bit 7 set raises its request
+-- a time-out with bit 7 set raises the channel's request: it makes it wait
 abbrev pub clock-raises : Channel → Bool
 clock-raises c = (counts-clocks c && clock-times-out (divisor-of (c .control)) (c .stage)) && c .control .interrupt
 
 -- an edge that acts sets an armed channel running, and is a count step in one that already runs in counter mode
 abbrev pub acts : Bool → Channel → Bool
-acts high c = edge-acts (c .control) (c .trigger) high
+acts high c = edge-acts (c .control) (c .level) high
 
 abbrev pub counts-edge : Bool → Channel → Bool
-counts-edge high c = (acts high c && is-running (c .phase)) && c .control .counter
+counts-edge high c = (acts high c && is-running (c .phase)) && c .control .«counter_mode»
 
 abbrev pub line-changed : Bool → Channel → Channel
 line-changed high c =
@@ -82,7 +80,7 @@ line-changed high c =
       control = c .control;
       phase = cond (acts high c && is-armed (c .phase)) Running (c .phase);
       awaits = c .awaits;
-      trigger = high;
+      level = high;
     }
 
 abbrev pub line-raises : Bool → Channel → Bool

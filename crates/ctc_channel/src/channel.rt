@@ -21,8 +21,8 @@ pub struct Channel {
     phase: Phase,
     // The next byte written is its constant.
     awaits: bool,
-    // The outside level of its trigger line.
-    trigger: bool,
+    // The outside level of its trigger line; true is high.
+    level: bool,
 }
 
 impl Channel {
@@ -34,7 +34,7 @@ impl Channel {
             control: Control::cleared(),
             phase: Phase::Stopped,
             awaits: false,
-            trigger: false,
+            level: false,
         }
     }
 
@@ -97,7 +97,7 @@ impl Channel {
         }
     }
 
-    // A clock; whether it raises the channel's request.
+    // A clock; whether it raises the channel's request, which is to make it wait.
     pub fn clock(&mut self) -> bool
         ensures raises { λ r. ⌜ r ≡ clock-raises (now (self .entry)) ⌝ }
         ensures after { λ _. ⌜ now (self .exit) ≡ channel-clocked (now (self .entry)) ⌝ }
@@ -116,8 +116,8 @@ impl Channel {
         ensures raises { λ r. ⌜ r ≡ line-raises high (now (self .entry)) ⌝ }
         ensures after { λ _. ⌜ now (self .exit) ≡ line-changed high (now (self .entry)) ⌝ }
     {
-        let acts = self.control.edge_acts(self.trigger, high);
-        self.trigger = high;
+        let acts = self.control.edge_acts(self.level, high);
+        self.level = high;
         if !acts {
             return false;
         }

@@ -9,77 +9,77 @@ ghost use Rattle.ctc_channel.specs.ControlWords.{«is-control-word», stops, �
 pub struct Control {
     interrupt: bool,
     // Counter mode, in place of timer mode.
-    counter: bool,
+    counter_mode: bool,
     // The divisor 256, in place of 16.
-    slow: bool,
+    by_256: bool,
     // The rising edge of the trigger acts, in place of the falling edge.
-    rising: bool,
+    rising_edge: bool,
     // In timer mode the channel starts on the trigger.
-    triggered: bool,
+    start_on_trigger: bool,
 }
 
 impl Control {
-    pub fn cleared() -> Control
+    pub(crate) fn cleared() -> Control
         ensures { λ r. ⌜ r ≡ cleared ⌝ }
     {
         Control {
             interrupt: false,
-            counter: false,
-            slow: false,
-            rising: false,
-            triggered: false,
+            counter_mode: false,
+            by_256: false,
+            rising_edge: false,
+            start_on_trigger: false,
         }
     }
 
-    pub fn of_word(word: u8) -> Control
+    pub(crate) fn of_word(word: u8) -> Control
         ensures { λ r. ⌜ r ≡ control-of word ⌝ }
     {
         Control {
             interrupt: is_set(word, 7),
-            counter: is_set(word, 6),
-            slow: is_set(word, 5),
-            rising: is_set(word, 4),
-            triggered: is_set(word, 3),
+            counter_mode: is_set(word, 6),
+            by_256: is_set(word, 5),
+            rising_edge: is_set(word, 4),
+            start_on_trigger: is_set(word, 3),
         }
     }
 
-    pub fn interrupt(self) -> bool
+    pub(crate) fn interrupt(self) -> bool
         ensures { λ r. ⌜ r ≡ self .interrupt ⌝ }
     {
         self.interrupt
     }
 
-    pub fn counts_edges(self) -> bool
-        ensures { λ r. ⌜ r ≡ self .counter ⌝ }
+    pub(crate) fn counts_edges(self) -> bool
+        ensures { λ r. ⌜ r ≡ self .«counter_mode» ⌝ }
     {
-        self.counter
+        self.counter_mode
     }
 
-    pub fn divisor(self) -> u16
+    pub(crate) fn divisor(self) -> u16
         ensures { λ r. ⌜ r ≡ divisor-of self ⌝ }
     {
-        if self.slow { 256 } else { 16 }
+        if self.by_256 { 256 } else { 16 }
     }
 
     // Whether a change to the next control zeroes the prescaler count.
-    pub fn restarts_prescaler(self, next: Control) -> bool
+    pub(crate) fn restarts_prescaler(self, next: Control) -> bool
         ensures { λ r. ⌜ r ≡ prescaler-restarts self next ⌝ }
     {
-        (self.slow != next.slow) | (self.counter != next.counter)
+        (self.by_256 != next.by_256) | (self.counter_mode != next.counter_mode)
     }
 
     // Whether a channel that is given its constant waits for the trigger.
-    pub fn starts_armed(self) -> bool
+    pub(crate) fn starts_armed(self) -> bool
         ensures { λ r. ⌜ r ≡ starts-armed self ⌝ }
     {
-        !self.counter & self.triggered
+        !self.counter_mode & self.start_on_trigger
     }
 
     // Whether a change of the trigger line from one level to another is an edge that acts.
-    pub fn edge_acts(self, from: bool, to: bool) -> bool
+    pub(crate) fn edge_acts(self, from: bool, to: bool) -> bool
         ensures { λ r. ⌜ r ≡ edge-acts self from to ⌝ }
     {
-        (from != to) & (to == self.rising)
+        (from != to) & (to == self.rising_edge)
     }
 }
 
@@ -91,13 +91,13 @@ pub fn is_control_word(byte: u8) -> bool
 }
 
 // What else a control word says: whether it stops the channel, and whether a constant follows.
-pub fn stops(word: u8) -> bool
+pub(crate) fn stops(word: u8) -> bool
     ensures { λ r. ⌜ r ≡ stops word ⌝ }
 {
     is_set(word, 1)
 }
 
-pub fn constant_follows(word: u8) -> bool
+pub(crate) fn constant_follows(word: u8) -> bool
     ensures { λ r. ⌜ r ≡ constant-follows word ⌝ }
 {
     is_set(word, 2)

@@ -3,19 +3,18 @@ use Prim.Native.Nat.{ℕ, zero, suc, _+_, _-_, _*_, _/_, _%_, _^_, _<_, _≤_}
 use native.Mathlib.Nat.{zero-div, div-self, div-eq-of-lt, div-eq-of-lt-le, mul-mod-left, mod-one, mod-eq-of-lt, pow-suc, pow-succ', div-one, div-div-eq-div-mul}
 use native.Mathlib.Numerals.{add-one, one-add}
 use native.Mathlib.Omega.{arith}
-use mathlib.Core.Bool.{Bool, true, false, not, cond, _&&_, _||_}
-use mathlib.Core.Path.{_≡_, refl, sym, _∙_, ap, ap₂, subst, subst₂, fun-ext}
+use mathlib.Core.Bool.{false, not, cond, _&&_, _||_}
+use mathlib.Core.Path.{_≡_, refl, sym, _∙_, ap, subst, subst₂}
 use mathlib.Core.Logic.{_⊎_, inl, inr}
-use lib.Dec.{ltb, eqb}
+use lib.Dec.{eqb}
 use lib.Bits.{bitAnd, bitOr, and-shr, or-shr, and-mod, or-mod}
-use lib.Count.{leadingZeros, ones, onesIn, ones-cat, leading-of-zero}
+use lib.Count.{leadingZeros, ones, onesIn, ones-cat}
 use lib.Pow.{pow-mono}
-use Rattle.std.proofs.shelf.Tests.{eq-eqb, ne-eqb, lt-ltb, le-ltb, cases-order, cases-lt}
+use Rattle.std.proofs.shelf.Tests.{eq-eqb, ne-eqb, cases-order}
 use Rattle.std.proofs.shelf.Bits.{pow-pos, pow-add, pow-below, leading-top, mod-below, shl-shr, mod-pow-add}
-use Rattle.std.specs.declared.option.Option.{Option}
-use Rattle.std.specs.declared.option.Option.the-variants.{Some, None}
+use Rattle.std.specs.declared.option.Option.the-variants.{Some}
 use Rattle.ranks.specs.Ranks.{bit, highest, how-many}
-use Rattle.ranks.proofs.Sets.{highest-none, highest-is}
+use Rattle.ranks.proofs.Sets.{highest-is}
 
 two-ways : (x : ℕ) → x < 2 → (x ≡ 0) ⊎ (x ≡ 1)
 two-ways zero h = inl refl
@@ -94,9 +93,6 @@ bit-not (suc w) a (suc k) h l =
     bit-half (2 ^ suc w - 1 - a) k ∙ ap (λ z. bit z k) e ∙ bit-not w (a / 2) k (omega (arith, pow-suc 2 w)) (omega arith) ∙ ap not (sym (bit-half a k))
 
 -- the highest bit, by the leading zeros at w bits
-pub highest-of-zero : (w : ℕ) → highest w (bit 0) ≡ None
-highest-of-zero w = highest-none w (bit 0) (λ k l. bit-zero k)
-
 pub highest-bit : (w a : ℕ) → 0 < a → a < 2 ^ w → highest w (bit a) ≡ Some (w - 1 - leadingZeros w a)
 unfolding bit
 highest-bit w a p h =

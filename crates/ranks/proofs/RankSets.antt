@@ -1,32 +1,22 @@
 -- What the operations on a set of ranks 0 to 15 make of its ranks.
-use Prim.Native.Nat.{ℕ, zero, suc, _+_, _-_, _^_, _<_, _≤_}
+use Prim.Native.Nat.{ℕ, _-_, _^_, _<_, _≤_}
 use native.Mathlib.Omega.{arith}
-use mathlib.Core.Bool.{Bool, true, false, not, cond, _&&_, _||_}
-use mathlib.Core.Path.{_≡_, refl, sym, _∙_, ap, ap₂, subst, fun-ext}
+use mathlib.Core.Bool.{Bool, true, false, not, cond, _&&_, _||_, and-assoc, and-comm, or-comm}
+use mathlib.Core.Path.{_≡_, refl, sym, _∙_, ap, fun-ext}
 use mathlib.Core.Logic.{_⊎_, inl, inr}
 use lib.Dec.{ltb, eqb}
 use lib.Bits.{bitAnd, bitOr}
 use lib.Pow.{pow-mono}
 use lib.Count.{leadingZeros, ones, leading-of-zero, leading-le}
-use Rattle.std.proofs.shelf.Tests.{eq-eqb, ne-eqb, lt-ltb, le-ltb, cases-eq, cases-lt, ltb-true, and-right}
+use Rattle.std.proofs.shelf.Tests.{eq-eqb, ne-eqb, lt-ltb, le-ltb, cases-eq, cases-lt, and-right}
 use Rattle.std.proofs.shelf.Bits.{pow-pos, pow-below}
-use Rattle.std.specs.declared.option.Option.{Option}
 use Rattle.std.specs.declared.option.Option.the-variants.{Some, None}
 use Rattle.ranks.specs.declared.set.RankSet.{RankSet}
-use Rattle.ranks.specs.Ranks.{empty, adding, removing, below, bit, highest, how-many, is-some, above}
-use Rattle.ranks.specs.RankSets.{ranks, mask-of, inserted, removed, intersected}
-use Rattle.ranks.proofs.Digits.{bit-and, bit-or, bit-zero, bit-pow, bit-past, bit-not, highest-of-zero, highest-bit, how-many-bits}
+use Rattle.ranks.specs.Ranks.{empty, adding, removing, both, below, bit, highest, how-many, is-some, above}
+use Rattle.ranks.specs.RankSets.{ranks, no-ranks, mask-of, inserted, removed, intersected}
+use Rattle.ranks.proofs.Digits.{bit-and, bit-or, bit-zero, bit-pow, bit-past, bit-not, highest-bit, how-many-bits}
 use Rattle.ranks.proofs.Sets.{highest-none, highest-agrees, how-many-agrees}
 use borrow.Author.Numbers.{leading-lt}
-
--- a rank of a set is below 16
-pub rank-below : (s : RankSet) (k : ℕ) → ranks s k ≡ true → k < 16
-unfolding below
-rank-below s k h = at (ltb k 16) refl h
-  where
-    at : (t : Bool) → ltb k 16 ≡ t → (t && bit (s .bits) k) ≡ true → k < 16
-    at true e q = ltb-true k 16 e
-    at false e q = absurd (let z : _≡_ {A = ℕ} 0 1 = cc in omega arith)
 
 mask-below : (r : ℕ) → mask-of r < 2 ^ 16
 mask-below r = at (cases-lt r 16)
@@ -42,28 +32,25 @@ mask-bit r k h = at (cases-lt r 16)
     at (inl l) = rw (lt-ltb r 16 l) (bit-pow r k)
     at (inr l) = rw (le-ltb r 16 l, ne-eqb k r (λ z. omega arith)) (bit-zero k)
 
-pub ranks-none : ranks (record { bits = 0 }) ≡ empty
+pub ranks-none : ranks no-ranks ≡ empty
 unfolding below empty
 ranks-none = fun-ext (λ k. and-right (ltb k 16) (bit 0 k) (bit-zero k))
 
-or-swap : (x y : Bool) → (x || y) ≡ (y || x)
-or-swap true true = refl
-or-swap true false = refl
-or-swap false true = refl
-or-swap false false = refl
-
-and-swap : (x y : Bool) → (x && y) ≡ (y && x)
-and-swap true true = refl
-and-swap true false = refl
-and-swap false true = refl
-and-swap false false = refl
-
-pub ranks-inserted : (r : ℕ) (s : RankSet) → r < 16 → ranks (inserted r s) ≡ adding r (ranks s)
+pub ranks-inserted-below : (r : ℕ) (s : RankSet) → ranks (inserted r s) ≡ below 16 (adding r (ranks s))
 unfolding below adding
-ranks-inserted r s h = fun-ext (λ k. at k (cases-lt k 16))
+ranks-inserted-below r s = fun-ext (λ k. at k (cases-lt k 16))
   where
-    at : (k : ℕ) → (k < 16) ⊎ (16 ≤ k) → (ltb k 16 && bit (bitOr (s .bits) (mask-of r)) k) ≡ (eqb k r || (ltb k 16 && bit (s .bits) k))
-    at k (inl l) = rw (lt-ltb k 16 l) (bit-or (s .bits) (mask-of r) k ∙ ap (λ t. bit (s .bits) k || t) (mask-bit r k l) ∙ or-swap (bit (s .bits) k) (eqb k r))
+    at : (k : ℕ) → (k < 16) ⊎ (16 ≤ k) → (ltb k 16 && bit (bitOr (s .bits) (mask-of r)) k) ≡ (ltb k 16 && (eqb k r || (ltb k 16 && bit (s .bits) k)))
+    at k (inl l) = rw (lt-ltb k 16 l) (bit-or (s .bits) (mask-of r) k ∙ ap (λ t. bit (s .bits) k || t) (mask-bit r k l) ∙ or-comm (bit (s .bits) k) (eqb k r))
+    at k (inr l) = rw (le-ltb k 16 l)
+
+-- a rank that is below 16 enters the set
+ranks-inserted : (r : ℕ) (s : RankSet) → r < 16 → ranks (inserted r s) ≡ adding r (ranks s)
+unfolding below adding
+ranks-inserted r s h = ranks-inserted-below r s ∙ fun-ext (λ k. at k (cases-lt k 16))
+  where
+    at : (k : ℕ) → (k < 16) ⊎ (16 ≤ k) → (ltb k 16 && (eqb k r || (ltb k 16 && bit (s .bits) k))) ≡ (eqb k r || (ltb k 16 && bit (s .bits) k))
+    at k (inl l) = rw (lt-ltb k 16 l)
     at k (inr l) = rw (le-ltb k 16 l, ne-eqb k r (λ z. omega arith))
 
 pub ranks-removed : (r : ℕ) (s : RankSet) → ranks (removed r s) ≡ removing r (ranks s)
@@ -74,7 +61,7 @@ ranks-removed r s = fun-ext (λ k. at k (cases-lt k 16))
     at k (inl l) =
         rw (lt-ltb k 16 l)
         (bit-and (s .bits) (65535 - mask-of r) k ∙ ap (λ t. bit (s .bits) k && t) (bit-not 16 (mask-of r) k (mask-below r) l ∙ ap not (mask-bit r k l))
-        ∙ and-swap (bit (s .bits) k) (not (eqb k r)))
+        ∙ and-comm (bit (s .bits) k) (not (eqb k r)))
     at k (inr l) = rw (le-ltb k 16 l) (sym (and-right (not (eqb k r)) false refl))
 
 pub ranks-intersected : (s t : RankSet) (k : ℕ) → ranks (intersected s t) k ≡ (ranks s k && ranks t k)
@@ -85,17 +72,17 @@ ranks-intersected s t k = ap (λ u. ltb k 16 && u) (bit-and (s .bits) (t .bits) 
     shared true y z = refl
     shared false y z = refl
 
+pub ranks-both : (s t : RankSet) → ranks (intersected s t) ≡ both (ranks s) (ranks t)
+unfolding both
+ranks-both s t = fun-ext (ranks-intersected s t)
+
 -- a rank leaves what two sets share where it leaves the first, and enters it there if it is in the second
 pub removed-from-both : (r : ℕ) (s t : RankSet) → ranks (intersected (removed r s) t) ≡ removing r (ranks (intersected s t))
 unfolding removing
 removed-from-both r s t =
     fun-ext (λ k.
     ranks-intersected (removed r s) t k ∙ ap (λ p. p k && ranks t k) (ranks-removed r s)
-    ∙ grouped (not (eqb k r)) (ranks s k) (ranks t k) ∙ ap (λ x. not (eqb k r) && x) (sym (ranks-intersected s t k)))
-  where
-    grouped : (x y z : Bool) → ((x && y) && z) ≡ (x && (y && z))
-    grouped true y z = refl
-    grouped false y z = refl
+    ∙ and-assoc (not (eqb k r)) (ranks s k) (ranks t k) ∙ ap (λ x. not (eqb k r) && x) (sym (ranks-intersected s t k)))
 
 pub inserted-in-both : (r : ℕ) (s t : RankSet) → r < 16 → ranks t r ≡ true → ranks (intersected (inserted r s) t) ≡ adding r (ranks (intersected s t))
 unfolding adding

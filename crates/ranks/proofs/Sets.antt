@@ -3,16 +3,16 @@ use Prim.Native.Nat.{ℕ, zero, suc, _+_, _<_, _≤_}
 use native.Mathlib.Nat.{zero-add, suc-add}
 use native.Mathlib.Numerals.{one-add}
 use native.Mathlib.Omega.{arith}
-use mathlib.Core.Bool.{Bool, true, false, not, cond, _&&_, _||_}
-use mathlib.Core.List.{List, [], _∷_}
-use mathlib.Core.Path.{_≡_, refl, sym, _∙_, ap, subst, fun-ext}
+use mathlib.Core.Bool.{Bool, true, false, not, cond, _&&_}
+use mathlib.Core.List.{[], _∷_}
+use mathlib.Core.Path.{_≡_, refl, sym, _∙_, ap, subst}
 use mathlib.Core.Logic.{_⊎_, inl, inr}
-use lib.Dec.{ltb, eqb}
+use lib.Dec.{eqb}
 use lib.ListN.{length}
 use Rattle.std.proofs.shelf.Tests.{eq-eqb, ne-eqb, cases-eq, and-right}
 use Rattle.std.specs.declared.option.Option.{Option}
 use Rattle.std.specs.declared.option.Option.the-variants.{Some, None}
-use Rattle.ranks.specs.Ranks.{empty, adding, removing, highest, how-many, from-the-top, is-some}
+use Rattle.ranks.specs.Ranks.{removing, highest, how-many, from-the-top}
 
 pub highest-none : (n : ℕ) (p : ℕ → Bool) → ((k : ℕ) → k < n → p k ≡ false) → highest n p ≡ None
 unfolding highest
@@ -28,7 +28,7 @@ highest-is (suc n) p r l e h = at (λ q. highest-is n p r q e (λ k l g. h k (om
     at f (inl q) = rw (← q, e)
     at f (inr q) = rw (h n (omega arith) (omega arith)) (f (omega arith))
 
--- what the highest rank of a set is
+-- a rank that is found is in the set, and below n
 unfoldable Highest-in : ℕ → (ℕ → Bool) → Option ℕ → Type 0
 Highest-in n p None = Unit {0}
 Highest-in n p (Some r) = (r < n) × (p r ≡ true)
@@ -57,12 +57,7 @@ unfolding highest
 highest-agrees zero p q h = refl
 highest-agrees (suc n) p q h = rw (h n (omega arith), highest-agrees n p q (λ k l. h k (omega arith)))
 
-pub how-many-agrees : (n : ℕ) (p q : ℕ → Bool) → ((k : ℕ) → k < n → p k ≡ q k) → how-many n p ≡ how-many n q
-unfolding how-many
-how-many-agrees zero p q h = refl
-how-many-agrees (suc n) p q h = rw (h n (omega arith), how-many-agrees n p q (λ k l. h k (omega arith)))
-
-pub from-the-top-agrees : (n : ℕ) (p q : ℕ → Bool) (v : ℕ → ℕ) → ((k : ℕ) → k < n → p k ≡ q k) → from-the-top n p v ≡ from-the-top n q v
+from-the-top-agrees : (n : ℕ) (p q : ℕ → Bool) (v : ℕ → ℕ) → ((k : ℕ) → k < n → p k ≡ q k) → from-the-top n p v ≡ from-the-top n q v
 unfolding from-the-top
 from-the-top-agrees zero p q v h = refl
 from-the-top-agrees (suc n) p q v h = rw (h n (omega arith), from-the-top-agrees n p q v (λ k l. h k (omega arith)))
@@ -73,11 +68,6 @@ module _ (p : ℕ → Bool) (n : ℕ) (ends : (k : ℕ) → n ≤ k → p k ≡ 
   unfolding highest
   highest-wider zero = rw (zero-add n)
   highest-wider (suc d) = rw (suc-add d n, ends (d + n) (omega arith)) (highest-wider d)
-
-  pub how-many-wider : (d : ℕ) → how-many (d + n) p ≡ how-many n p
-  unfolding how-many
-  how-many-wider zero = rw (zero-add n)
-  how-many-wider (suc d) = rw (suc-add d n, ends (d + n) (omega arith), zero-add) (how-many-wider d)
 
   pub from-the-top-wider : (v : ℕ → ℕ) (d : ℕ) → from-the-top (d + n) p v ≡ from-the-top n p v
   unfolding from-the-top
@@ -117,3 +107,13 @@ from-the-top-first (suc n) p v r e = at (p n) (from-the-top-first n p v r) e
         let q : r ≡ n = cc in
         rw (q, eq-eqb n n refl) (ap (λ l. v n ∷ l) (sym gone))
     at false f h = rw (and-right (not (eqb n r)) false refl) (f h)
+
+-- the count is the length of that list
+pub how-many-agrees : (n : ℕ) (p q : ℕ → Bool) → ((k : ℕ) → k < n → p k ≡ q k) → how-many n p ≡ how-many n q
+how-many-agrees n p q h = sym (from-the-top-length n p (λ k. k)) ∙ ap length (from-the-top-agrees n p q (λ k. k) h) ∙ from-the-top-length n q (λ k. k)
+
+pub how-many-wider : (p : ℕ → Bool) (n : ℕ) → ((k : ℕ) → n ≤ k → p k ≡ false) → (d : ℕ) → how-many (d + n) p ≡ how-many n p
+how-many-wider p n ends d = sym (from-the-top-length (d + n) p (λ k. k)) ∙ ap length (from-the-top-wider p n ends (λ k. k) d) ∙ from-the-top-length n p (λ k. k)
+
+pub one-fewer : (n : ℕ) (p : ℕ → Bool) (r : ℕ) → Some r ≡ highest n p → how-many n p ≡ suc (how-many n (removing r p))
+one-fewer n p r e = sym (from-the-top-length n p (λ k. k)) ∙ ap length (from-the-top-first n p (λ k. k) r e) ∙ ap suc (from-the-top-length n (removing r p) (λ k. k))

@@ -10,6 +10,9 @@ use Rattle.ranks.specs.Ranks.{bit, below}
 abbrev pub ranks : RankSet → ℕ → Bool
 ranks s = below 16 (bit (s .bits))
 
+abbrev pub no-ranks : RankSet
+no-ranks = record { bits = 0 }
+
 -- the bit of a rank, and none above 15
 abbrev pub mask-of : ℕ → ℕ
 mask-of r = cond (ltb r 16) (2 ^ r) 0

@@ -16,6 +16,10 @@ adding r p k = eqb k r || p k
 unfoldable pub removing : ℕ → (ℕ → Bool) → ℕ → Bool
 removing r p k = not (eqb k r) && p k
 
+-- those that two sets share
+unfoldable pub both : (ℕ → Bool) → (ℕ → Bool) → ℕ → Bool
+both p q k = p k && q k
+
 -- those of a set that are below n
 unfoldable pub below : ℕ → (ℕ → Bool) → ℕ → Bool
 below n p k = ltb k n && p k
@@ -45,6 +49,6 @@ above None o = false
 above (Some r) None = true
 above (Some r) (Some s) = ltb s r
 
--- the set of the bits of a number
+-- bit k of a number, and so the set of its bits
 unfoldable pub bit : ℕ → ℕ → Bool
 bit a k = eqb (a / 2 ^ k % 2) 1

@@ -3,6 +3,7 @@ ghost use mathlib.Core.Path.{_≡_};
 ghost use mathlib.Core.Bool.{cond};
 ghost use Prim.Native.Nat.{_-_};
 ghost use lib.Dec.{eqb, ltb};
+ghost use lib.Bits.{bitAnd, bitOr};
 ghost use lib.Count.{leadingZeros, ones};
 ghost use Rattle.std.specs.declared.option.Option.the-variants.{Some, None};
 ghost use Rattle.ranks.specs.RankSets.{«mask-of»};
@@ -32,8 +33,26 @@ pub(crate) fn count(bits: u16) -> u16
 }
 
 // One bit, and none where the number is above 15.
-pub(crate) fn single(number: u8) -> u16
+fn single(number: u8) -> u16
     ensures { λ r. ⌜ r ≡ mask-of number ⌝ }
 {
     if number < 16 { 1 << number } else { 0 }
+}
+
+pub(crate) fn with(bits: u16, number: u8) -> u16
+    ensures { λ r. ⌜ r ≡ bitOr bits (mask-of number) ⌝ }
+{
+    bits | single(number)
+}
+
+pub(crate) fn without(bits: u16, number: u8) -> u16
+    ensures { λ r. ⌜ r ≡ bitAnd bits (65535 - mask-of number) ⌝ }
+{
+    bits & !single(number)
+}
+
+pub(crate) fn shared(first: u16, second: u16) -> u16
+    ensures { λ r. ⌜ r ≡ bitAnd first second ⌝ }
+{
+    first & second
 }

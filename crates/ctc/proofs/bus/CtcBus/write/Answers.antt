@@ -12,5 +12,5 @@ returns c =
       after = c .write-port .ensures .after;
       service-only-shrinks =
           subst (λ t. Service-only-shrinks (ctc-meaning s) (ctc-meaning t)) (sym (c .write-port .ensures .after))
-          (ctc-sentences .write-moves s (c .args .port) (c .args .byte) .service);
+          (ctc-sentences .write-keeps s (c .args .port) (c .args .byte) .service);
     }
