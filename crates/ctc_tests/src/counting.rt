@@ -78,6 +78,27 @@ fn timer_mode() -> Result<(), Fail> {
                 Clocks(1),
                 Int(true),
             ],
+            // and so does one that changes bit 6: to counter mode, and back again
+            &[
+                Write(0x10, 0x85),
+                Write(0x10, 1),
+                Clocks(10),
+                Write(0x10, 0xC1),
+                Write(0x10, 0x81),
+                Clocks(15),
+                Int(false),
+                Clocks(1),
+                Int(true),
+            ],
+            // an awaited byte is a constant, whatever its bit 0 is
+            &[
+                Write(0x11, 0x85),
+                Write(0x11, 3),
+                Read(0x11, 3),
+                Write(0x11, 0x85),
+                Write(0x11, 4),
+                Read(0x11, 3),
+            ],
             // a stopped channel counts nothing until it is given a constant
             &[
                 Write(0x10, 0x85),
@@ -157,6 +178,30 @@ fn trigger_lines() -> Result<(), Fail> {
                 Clocks(16),
                 Int(true),
             ],
+            // an armed channel stays armed where a control word clears bit 3, and where it is given another constant
+            &[
+                Write(0x11, 0x9D),
+                Write(0x11, 1),
+                Write(0x11, 0x95),
+                Write(0x11, 2),
+                Clocks(100),
+                Read(0x11, 1),
+                Line(1, true),
+                Clocks(16),
+                Int(true),
+                Read(0x11, 2),
+            ],
+            // in counter mode bit 3 does not arm the channel
+            &[Write(0x10, 0xDD), Write(0x10, 1), Line(0, true), Int(true)],
+            // a control word that changes bit 4 is no edge
+            &[
+                Line(0, true),
+                Write(0x10, 0xC5),
+                Write(0x10, 1),
+                Write(0x10, 0xD1),
+                Int(false),
+                Read(0x10, 1),
+            ],
             // an edge is nothing to a channel that runs in timer mode
             &[
                 Write(0x10, 0x95),
@@ -169,7 +214,7 @@ fn trigger_lines() -> Result<(), Fail> {
 }
 
 #[test]
-fn reset_keeps_counters_and_outside_levels() -> Result<(), Fail> {
+fn resets() -> Result<(), Fail> {
     check_all(
         &[
             &[
@@ -194,19 +239,7 @@ fn reset_keeps_counters_and_outside_levels() -> Result<(), Fail> {
                 Line(0, true),
                 Int(true),
             ],
-            // the prescaler count is cleared, and no constant is awaited
-            &[
-                Write(0x10, 0x85),
-                Write(0x10, 1),
-                Clocks(10),
-                Reset,
-                Write(0x10, 0x85),
-                Write(0x10, 1),
-                Clocks(15),
-                Int(false),
-                Clocks(1),
-                Int(true),
-            ],
+            // no constant is awaited
             &[
                 Write(0x10, 0x85),
                 Reset,

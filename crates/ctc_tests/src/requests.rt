@@ -161,23 +161,25 @@ fn numbers_of_refusals() -> Result<(), Fail> {
 }
 
 // Channels 0, 1 and 3 wait, with vectors 40h, 42h and 46h.
-fn three_waiting() -> Ctc {
+fn three_waiting() -> Result<Ctc, Fail> {
     let mut card = Ctc::new(0x10);
-    let _ = card.write(0x10, 0x40);
+    check_eq(card.write(0x10, 0x40), Ok(()))?;
     for port in [0x10, 0x11, 0x13] {
-        let _ = card.write(port, 0xD5);
-        let _ = card.write(port, 1);
+        check_eq(card.write(port, 0xD5), Ok(()))?;
+        check_eq(card.write(port, 1), Ok(()))?;
     }
     for line in [0, 1, 3] {
-        let _ = card.change_line(0x10, line, true);
+        // any port of the card names it
+        check_eq(card.change_line(0x13 - line, line, true), Ok(()))?;
     }
-    card
+    Ok(card)
 }
 
 #[test]
 fn waiting_list() -> Result<(), Fail> {
-    let card = three_waiting();
+    let card = three_waiting()?;
     check_eq(card.waiting_count(), 3)?;
+    check_eq(Ctc::new(0x10).waiting_list(&mut []), Ok(0))?;
     let mut two = [0xEE; 2];
     check_eq(card.waiting_list(&mut two), Err(Refusal::TooFewPlaces))?;
     check_eq(two, [0xEE, 0xEE])?;
@@ -191,7 +193,7 @@ fn waiting_list() -> Result<(), Fail> {
 
 #[test]
 fn chain_wires() -> Result<(), Fail> {
-    let mut card = three_waiting();
+    let mut card = three_waiting()?;
     check_eq(Ctc::new(0x10).ieo(true), true)?;
     check_eq(Ctc::new(0x10).ieo(false), false)?;
     check_eq(card.ieo(true), false)?;
@@ -199,10 +201,32 @@ fn chain_wires() -> Result<(), Fail> {
     check_eq(card.pulls_int(false), false)?;
     check_eq(card.acknowledge(false), None)?;
     check_eq(card.acknowledge(true), Some(0x40))?;
+    check_eq(card.write(0x11, 0x51), Ok(()))?;
+    check_eq(card.write(0x13, 0x51), Ok(()))?;
+    // nothing waits any more, and service alone holds IEO low
+    check_eq(card.waiting_count(), 0)?;
+    check_eq(card.ieo(true), false)?;
     check_eq(card.ieo_during_return(true), false)?;
     card.return_from_interrupt(false);
     check_eq(card.ieo_during_return(true), false)?;
     card.return_from_interrupt(true);
     check_eq(card.ieo_during_return(true), true)?;
     check_eq(card.ieo_during_return(false), false)
+}
+
+#[test]
+fn ports_from_the_base_with_its_low_two_bits_cleared() -> Result<(), Fail> {
+    let card = Ctc::new(0x36);
+    let cases = [
+        (0x33, false),
+        (0x34, true),
+        (0x35, true),
+        (0x36, true),
+        (0x37, true),
+        (0x38, false),
+    ];
+    for (port, taken) in cases {
+        check_eq(card.takes(port), taken)?;
+    }
+    Ok(())
 }

@@ -17,7 +17,9 @@ pub enum Step {
     Read(u8, u8),
     ReadRefused(u8, Refusal),
     Clocks(u16),
+    // The line and its level.
     Line(u8, bool),
+    // The port and the line.
     LineRefused(u8, u8, Refusal),
     // Whether INT is pulled.
     Int(bool),
@@ -39,18 +41,21 @@ pub fn check_all(examples: &[&[Step]]) -> Result<(), Fail> {
 fn check(steps: &[Step]) -> Result<(), Fail> {
     let mut card = Ctc::new(0x10);
     for step in steps {
-        make(&mut card, *step)?;
+        perform(&mut card, *step)?;
     }
     Ok(())
 }
 
-fn make(card: &mut Ctc, step: Step) -> Result<(), Fail> {
+fn perform(card: &mut Ctc, step: Step) -> Result<(), Fail> {
     match step {
         Step::Write(port, byte) => check_eq(card.write(port, byte), Ok(())),
         Step::WriteRefused(port, byte, refusal) => check_eq(card.write(port, byte), Err(refusal)),
         Step::Read(port, byte) => check_eq(card.read(port), Ok(byte)),
         Step::ReadRefused(port, refusal) => check_eq(card.read(port), Err(refusal)),
-        Step::Clocks(number) => Ok(clocks(card, number)),
+        Step::Clocks(number) => {
+            clocks(card, number);
+            Ok(())
+        }
         Step::Line(line, high) => check_eq(card.change_line(0x10, line, high), Ok(())),
         Step::LineRefused(port, line, refusal) => check_eq(
             card.change_line(port, line, true),
@@ -58,8 +63,14 @@ fn make(card: &mut Ctc, step: Step) -> Result<(), Fail> {
         ),
         Step::Int(pulled) => check_eq(card.pulls_int(true), pulled),
         Step::Acknowledge(vector) => check_eq(card.acknowledge(true), vector),
-        Step::Return => Ok(card.return_from_interrupt(true)),
-        Step::Reset => Ok(card.reset()),
+        Step::Return => {
+            card.return_from_interrupt(true);
+            Ok(())
+        }
+        Step::Reset => {
+            card.reset();
+            Ok(())
+        }
         Step::Waiting(number) => check_eq(card.waiting_count(), number),
     }
 }
