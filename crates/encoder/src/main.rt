@@ -1,5 +1,5 @@
-// An example for card builders: drives one card through the interface. A CTC counts the edges of a shaft encoder, and
-// requests an interrupt every third edge.
+// An example for card builders: drives one card through the interface. A CTC counts the rising edges of a shaft encoder,
+// and requests an interrupt every third one.
 use card::Bus;
 use card::Chain;
 use card::Refusal;
@@ -33,7 +33,7 @@ fn run(rt: &LibcRuntime) -> Result<(), AnyError> {
     Ok(())
 }
 
-// What follows works for every card, by the interface alone.
+// What follows takes any card, by the interface alone; the bytes that are written are a CTC's.
 
 fn set_up<C: Bus>(rt: &LibcRuntime, card: &mut C) -> Result<(), AnyError> {
     write(rt, card, 0x40, "vector")?;
