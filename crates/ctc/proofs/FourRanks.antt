@@ -12,10 +12,12 @@ use Rattle.ranks.proofs.Sets.{highest-wider, how-many-wider, from-the-top-wider
 use Rattle.ranks.proofs.RankSets.{ranks-intersected, ranks-lowest}
 use Rattle.ctc.specs.Chip.{four-ranks}
 
+-- the ranks that a CTC has
 pub four : (k : ℕ) → ranks four-ranks k ≡ ltb k 4
 four k = ranks-lowest 4 k (omega arith)
 
 module _ (s : RankSet) where
+  -- what is left of a set when it is cut to these
   cut : (k : ℕ) → ranks (intersected s four-ranks) k ≡ (ranks s k && ltb k 4)
   cut k = ranks-intersected s four-ranks k ∙ ap (λ t. ranks s k && t) (four k)
 

@@ -36,6 +36,7 @@ unfolding adding
 rank-raised j k w h = ap (λ p. p (rank-of k)) (inserted-in-both (rank-of j) w four-ranks (omega arith) (four (rank-of j) ∙ lt-ltb (rank-of j) 4 (omega arith)))
 
 module _ (k : ℕ) (l : k < 4) (c : Ctc) (x : Channel) (w : Bool) (s : Seen k c x w) where
+  -- another channel changes
   pub seen-beside : (j : ℕ) (y : Channel) (raises : Bool) → j < 4 → (k ≡ j → ⊥) → Seen k (channel-became j y raises c) x w
   seen-beside j y raises h ne =
       record {
@@ -48,6 +49,7 @@ module _ (k : ℕ) (l : k < 4) (c : Ctc) (x : Channel) (w : Bool) (s : Seen k c 
       not-raised true = rank-raised j k (c .waiting) h ∙ rw (ne-eqb (rank-of k) (rank-of j) (λ e. ne (omega arith)))
       not-raised false = refl
 
+  -- channel k changes
   pub seen-there : (y : Channel) (raises : Bool) → Seen k (channel-became k y raises c) y (w || raises)
   seen-there y raises =
       record {

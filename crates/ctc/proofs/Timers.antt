@@ -16,6 +16,7 @@ use Rattle.ctc.specs.Chip.{channel-of, channel-at, clocked-at, ctc-clocked, wr
 use Rattle.ctc.specs.Runs.{after, requests, Timers-request-on-time}
 use Rattle.ctc.proofs.Requests.{Seen, seen-beside, seen-there, seen-after, channel-below, seen-started, fresh-start, runs}
 
+-- a clock of channel j, and one of channel k itself
 past : (k j : ℕ) → k < 4 → j < 4 → (k ≡ j → ⊥) → {c : Ctc} {x : Channel} {w : Bool} → Seen k c x w → Seen k (clocked-at j c) x w
 past k j l h ne {c} {x} {w} s = seen-beside k l c x w s j (channel-clocked (channel-at j c)) (clock-raises (channel-at j c)) h ne
 
