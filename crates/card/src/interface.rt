@@ -13,7 +13,7 @@ pub trait Chain {
     // The second is the first unaltered, but for what a layer notes beside the card that it holds.
     ghost same: { Self → Self → Type 0 };
 
-    // What each call leaves, by the card's own rules.
+    // What each call leaves, the byte that a read answers, and the bytes of the waiting list, by the card's own rules.
     ghost rules: { Rules Self };
 
     law sentences: { Sentences Self meaning same rules };

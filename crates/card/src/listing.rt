@@ -24,7 +24,7 @@ pub fn places(buffer: &[u8]) -> usize
     buffer.len().min(4096)
 }
 
-// The count, or a refusal where a list of so many bytes does not fit into the buffer.
+// The count, or a refusal where it exceeds the places of the buffer.
 pub fn check_room(count: u16, buffer: &[u8]) -> Result<u16, Refusal>
     ensures { λ r. ⌜ r ≡ list-answer count (now (buffer .entry)) ⌝ }
 {

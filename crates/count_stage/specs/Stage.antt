@@ -35,8 +35,8 @@ step-times-out s = eqb (s .counter) 1
 abbrev pub stepped : CountStage → CountStage
 stepped s = with-counter (cond (step-times-out s) (s .constant) (one-lower (s .counter))) s
 
--- a clock: it adds 1 to the prescaler count; at the divisor that becomes 0, and a count step is made (a divisor of 0
--- acts as 1)
+-- a clock: it adds 1 to the prescaler count; at the divisor or above it that becomes 0, and a count step is made (a
+-- divisor of 0 acts as 1)
 abbrev pub below-divisor : ℕ → CountStage → Bool
 below-divisor d s = ltb (s .prescaler + 1) d
 

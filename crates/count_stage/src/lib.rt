@@ -8,7 +8,7 @@ pub struct CountStage {
     constant: u8,
     // 0 stands for 256.
     counter: u8,
-    // The clocks since the last count step, fresh start or clearing.
+    // The clocks since the last count step that a clock made, fresh start or clearing.
     prescaler: u16,
 }
 

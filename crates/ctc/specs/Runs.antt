@@ -20,7 +20,8 @@ after (suc n) next c = next (after n next c)
 abbrev pub control-at : ℕ → Ctc → Control
 control-at port c = channel-at (channel-of port) c .control
 
--- a pulse: the trigger line of the port's channel is changed to the level that does not act, and then to the one that does
+-- a pulse: the trigger line of the port's channel is changed to the level from which the acting edge starts, and then to the
+-- other
 abbrev pub pulsed : ℕ → Ctc → Ctc
 pulsed port c =
     let acting : Bool = control-at port c .«rising_edge» in

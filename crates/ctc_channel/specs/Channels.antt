@@ -27,7 +27,8 @@ is-running Running = true
 abbrev pub new-channel : Channel
 new-channel = record { stage = started 0; control = cleared; phase = Stopped; awaits = false; level = false }
 
--- a reset stops it and clears control and prescaler count; the constant, the counter and the outside level stay
+-- a reset stops it, clears control and prescaler count, and awaits no constant; the constant, the counter and the outside
+-- level stay
 abbrev pub channel-reset : Channel → Channel
 channel-reset c = record { stage = prescaler-cleared (c .stage); control = cleared; phase = Stopped; awaits = false; level = c .level }
 

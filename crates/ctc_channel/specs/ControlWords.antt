@@ -4,7 +4,7 @@ use mathlib.Core.Bool.{Bool, false, not, cond, _&&_, _||_}
 use Rattle.ranks.specs.Ranks.{bit}
 use Rattle.ctc_channel.specs.declared.control.Control.{Control}
 
--- a byte with bit 0 set is a control word
+-- a byte that is not awaited is a control word if bit 0 is set
 abbrev pub is-control-word : ℕ → Bool
 is-control-word b = bit b 0
 
@@ -31,7 +31,7 @@ differ x y = cond x (not y) y
 abbrev pub prescaler-restarts : Control → Control → Bool
 prescaler-restarts c d = differ (c .«by_256») (d .«by_256») || differ (c .«counter_mode») (d .«counter_mode»)
 
--- a constant arms a channel in timer mode with bit 3 set
+-- a constant arms a stopped channel in timer mode with bit 3 set
 abbrev pub starts-armed : Control → Bool
 starts-armed c = not (c .«counter_mode») && c .«start_on_trigger»
 

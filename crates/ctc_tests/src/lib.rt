@@ -1,4 +1,4 @@
-// Examples of a CTC, as tables of steps.
+// Examples of a CTC, most as tables of steps.
 #[cfg(test)]
 mod counting;
 #[cfg(test)]
