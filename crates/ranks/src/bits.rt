@@ -8,11 +8,17 @@ ghost use lib.Count.{leadingZeros, ones};
 ghost use Rattle.std.specs.declared.option.Option.the-variants.{Some, None};
 ghost use Rattle.ranks.specs.RankSets.{«mask-of»};
 
+pub(crate) fn none(bits: u16) -> bool
+    ensures { λ r. ⌜ r ≡ eqb bits 0 ⌝ }
+{
+    bits == 0
+}
+
 // The number of the highest bit that is set.
 pub(crate) fn top(bits: u16) -> Option<u8>
     ensures { λ r. ⌜ r ≡ cond (eqb bits 0) None (Some (15 - leadingZeros 16 bits)) ⌝ }
 {
-    if bits == 0 {
+    if none(bits) {
         None
     } else {
         Some((15 - bits.leading_zeros()) as u8)

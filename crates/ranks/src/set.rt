@@ -27,7 +27,7 @@ impl RankSet {
     pub fn is_empty(self) -> bool
         ensures { λ r. ⌜ r ≡ not (is-some (highest 16 (ranks self))) ⌝ }
     {
-        self.bits == 0
+        bits::none(self.bits)
     }
 
     pub fn highest(self) -> Option<u8>
