@@ -1,4 +1,6 @@
 // The one interface behind which every card of a rack stands.
+#![tactic(auto)]
+
 pub mod interface;
 pub mod listing;
 pub mod refusals;

@@ -1,4 +1,6 @@
 // A down-counter behind a prescaler, as the timers of the cards have.
+#![tactic(auto)]
+
 ghost use Rattle.std.specs.Prelude.{◌≡◌};
 ghost use Rattle.count_stage.specs.Stage.{started, with_constant, prescaler_cleared, step_times_out, stepped, clock_times_out, clocked};
 ghost use Rattle.count_stage.specs.Runs.{ClocksTimeOutAtEveryMultiple, StepsTimeOutAtEveryMultiple};

@@ -1,4 +1,6 @@
 // One channel of a CTC: its control word, its phase, and what it counts.
+#![tactic(auto)]
+
 pub mod channel;
 pub mod control;
 

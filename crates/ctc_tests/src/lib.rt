@@ -1,4 +1,6 @@
 // Examples of a CTC, most as tables of steps.
+#![tactic(auto)]
+
 #[cfg(test)]
 mod counting;
 #[cfg(test)]

@@ -1,5 +1,7 @@
 // An example for card builders: drives one card through the interface. A CTC counts the rising edges of a shaft encoder,
 // and requests an interrupt every third one.
+#![tactic(auto)]
+
 use card::{Bus, Chain, Refusal};
 use ctc::Ctc;
 

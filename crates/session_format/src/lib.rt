@@ -1,4 +1,6 @@
 // The format of a setting-up session: its calls, its refusals, and the reader.
+#![tactic(auto)]
+
 pub mod encoding;
 pub mod reader;
 pub mod refusals;

@@ -1,4 +1,6 @@
 // Examples of sessions, read and listed.
+#![tactic(auto)]
+
 #[cfg(test)]
 mod building;
 #[cfg(test)]

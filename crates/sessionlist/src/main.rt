@@ -1,4 +1,6 @@
 // Lists the session that stands on standard input, or says why it is none.
+#![tactic(auto)]
+
 use session_listing::listing;
 use std::io::Read;
 

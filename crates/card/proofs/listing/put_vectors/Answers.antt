@@ -14,4 +14,4 @@ loop-rank-preserved g c =
     (room_left v _ _ _ _ _ c.loop-rank.invariant _ c.in-Some.ensures c.requires c.loop-rank.auto.buffer) c.vector.ensures c.remove.ensures.bits c.put.ensures
 
 pub returns : goal.returns
-returns g c = all_put (g.C.Vectors.vectors c.args.card.now) _ _ _ _ _ c.loop-rank.invariant c.in-default.ensures
+returns g c = all_put (g.C.Vectors.vectors c.args.card.now) _ _ _ _ _ c.loop-rank.invariant c.in_default.ensures

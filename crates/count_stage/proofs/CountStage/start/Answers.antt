@@ -9,6 +9,6 @@ returns c =
     let e = sym c.fresh.ensures in
     record {
       after = c.fresh.ensures;
-      clocks-time-out-at-every-multiple = subst (ClocksTimeOutAtEveryMultiple k) e (λ d n h. clocks_at_every_multiple d k (omega arith) h n);
-      steps-time-out-at-every-multiple = subst (StepsTimeOutAtEveryMultiple k) e (steps_at_every_multiple k (omega arith));
+      clocks_time_out_at_every_multiple = subst (ClocksTimeOutAtEveryMultiple k) e (λ d n h. clocks_at_every_multiple d k (omega arith) h n);
+      steps_time_out_at_every_multiple = subst (StepsTimeOutAtEveryMultiple k) e (steps_at_every_multiple k (omega arith));
     }
