@@ -9,23 +9,23 @@ use Rattle.session_format.proofs.reader.read_session.Goals as goal
 
 pub returns : goal.returns
 returns c =
-    let same : answer c.read-calls.result ≡ session_of c.args.bytes.now =
-    c.read-calls.ensures
-    ∙ ap (λ n. counted n (after 2 c.args.bytes.now)) c.count-of.ensures
+    let same : answer c.read_calls.result ≡ session_of c.args.bytes.now =
+    c.read_calls.ensures
+    ∙ ap (λ n. counted n (after 2 c.args.bytes.now)) c.count_of.ensures
     ∙ sym (session_by_places c.args.bytes.now (search rules)) in
     record {
       answer = same;
-      holdable = holdable_answer c.args.bytes.now c.type-inv.bytes c.read-calls.result same;
-      written-is-read = reads_what_is_written;
-      read-is-written = writes_what_was_read c.args.bytes.now c.type-inv.bytes;
+      holdable = holdable_answer c.args.bytes.now c.type_inv.bytes c.read_calls.result same;
+      written_is_read = reads_what_is_written;
+      read_is_written = writes_what_was_read c.args.bytes.now c.type_inv.bytes;
       front_decides = front_decides c.args.bytes.now;
     }
 
-pub returns-in-default : goal.returns-in-default
-returns-in-default c = record {
+pub returns-in_default : goal.returns-in_default
+returns-in_default c = record {
   answer = sym (session_short c.args.bytes.now (search rules));
   holdable = tt;
-  written-is-read = reads_what_is_written;
-  read-is-written = writes_what_was_read c.args.bytes.now c.type-inv.bytes;
+  written_is_read = reads_what_is_written;
+  read_is_written = writes_what_was_read c.args.bytes.now c.type_inv.bytes;
   front_decides = front_decides c.args.bytes.now;
 }

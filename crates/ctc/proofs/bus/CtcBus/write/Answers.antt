@@ -8,9 +8,9 @@ pub returns : goal.returns
 returns c =
     let s = c.args.self.now in
     record {
-      answer = c.write-port.ensures.answer;
-      after = c.write-port.ensures.after;
-      service-only-shrinks =
-          subst (λ t. ServiceOnlyShrinks (ctc_meaning s) (ctc_meaning t)) (sym c.write-port.ensures.after)
+      answer = c.write_port.ensures.answer;
+      after = c.write_port.ensures.after;
+      service_only_shrinks =
+          subst (λ t. ServiceOnlyShrinks (ctc_meaning s) (ctc_meaning t)) (sym c.write_port.ensures.after)
           (ctc_sentences.write_keeps s c.args.port c.args.byte).service;
     }

@@ -4,6 +4,6 @@ use Rattle.ctc.proofs.chain.CtcChain.waiting_list.Goals as goal
 pub returns : goal.returns
 returns c =
     record {
-      answer = list_answer_is c.args.self.now _ c.waiting-ranks.ensures _ _ c.list-vectors.ensures.answer;
-      bytes = listed_is c.args.self.now _ c.waiting-ranks.ensures _ _ c.list-vectors.ensures.bytes;
+      answer = list_answer_is c.args.self.now _ c.waiting_ranks.ensures _ _ c.list_vectors.ensures.answer;
+      bytes = listed_is c.args.self.now _ c.waiting_ranks.ensures _ _ c.list_vectors.ensures.bytes;
     }
