@@ -1,7 +1,6 @@
 -- Laws of meanings that the proofs of cards share.
-use Rattle.std.proofs.Common.{◌≡◌, ℕ, ◌<◌, Bool, true, false, cond, ◌&&◌, Some, None, Option, refl, arith}
+use Rattle.std.proofs.Common.{◌≡◌, ℕ, ◌<◌, Bool, true, false, cond, ◌&&◌, Some, None, Option, is_some, refl, arith}
 use Rattle.std.proofs.lemmas.Bool.{cond-false, true≢false}
-use Rattle.ranks.specs.Ranks.{is_some}
 use Rattle.ranks.proofs.Sets.{highest_in}
 use Rattle.card.specs.Meaning.{Meaning, highest_waiting, highest_in_service, serves, pulls, rank_acknowledged, rank_returned}
 use Rattle.card.specs.Sentences.{KeptOnTheBus}
@@ -20,7 +19,7 @@ unfolding rank_acknowledged
 no_pull_takes_none iei m e = cond-false (pulls iei m) (highest_waiting m) None e
 
 pub no_service_ends_none : (iei : Bool) (m : Meaning) → (iei && serves m) ≡ false → rank_returned iei m ≡ None
-unfolding rank_returned serves is_some
+unfolding rank_returned serves
 no_service_ends_none true m e = none_of (highest_in_service m) e
   where
     none_of : (o : Option ℕ) → is_some o ≡ false → o ≡ None

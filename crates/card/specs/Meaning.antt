@@ -1,6 +1,6 @@
 -- What a card means, and what the calls of the interrupt chain make of it.
-use Rattle.std.specs.Prelude.{ℕ, Bool, cond, not, ◌&&◌, Some, None, Option}
-use Rattle.ranks.specs.Ranks.{adding, removing, highest, how_many, above, is_some}
+use Rattle.std.specs.Prelude.{ℕ, Bool, cond, not, ◌&&◌, Some, None, Option, is_some}
+use Rattle.ranks.specs.Ranks.{adding, removing, highest, how_many, above}
 use Rattle.card.specs.declared.refusals.Refusal.{Refusal}
 
 pub record Meaning : Type 0 where

@@ -1,8 +1,8 @@
 -- What a CTC's chain calls answer and leave, by its meaning.
-use Rattle.std.proofs.Common.{◌≡◌, ℕ, ◌<◌, min, Bool, cond, not, ◌&&◌, List, Some, None, Option, Result, sym, refl, ap, ◌∙◌, ap₂, arith}
+use Rattle.std.proofs.Common.{◌≡◌, ℕ, ◌<◌, min, Bool, cond, not, ◌&&◌, List, Some, None, Option, is_some, Result, sym, refl, ap, ◌∙◌, ap₂, arith}
 use mathlib.Core.Bool.{and_assoc}
 use Rattle.ranks.specs.declared.set.RankSet.{RankSet}
-use Rattle.ranks.specs.Ranks.{how_many, from_the_top, above, is_some}
+use Rattle.ranks.specs.Ranks.{how_many, from_the_top, above}
 use Rattle.ranks.specs.RankSets.{ranks}
 use Rattle.card.specs.declared.refusals.Refusal.{Refusal}
 use Rattle.card.specs.Listing.{list_answer, listed_into}

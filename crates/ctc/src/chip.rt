@@ -1,6 +1,6 @@
 // The registers of a CTC, and what its calls make of them.
-ghost use Rattle.std.specs.Prelude.{◌≡◌, ◌<◌, not, ◌&&◌, if◌then◌else◌, None};
-ghost use Rattle.ranks.specs.Ranks.{above, is_some};
+ghost use Rattle.std.specs.Prelude.{◌≡◌, ◌<◌, not, ◌&&◌, if◌then◌else◌, None, is_some};
+ghost use Rattle.ranks.specs.Ranks.{above};
 ghost use Rattle.card.specs.Refusals.{answered};
 ghost use Rattle.ctc.specs.Chip.{new_ctc, takes, rank_of, waiting_set, service_set, top_waiting, top_in_service, vector_at, raised, with_taken, with_ended, ctc_reset, clocked_at, ctc_clocked, channel_at, role_of, control_set, written, write_refusal, read_refusal, counter_at, line_changed_at, line_set, line_refusal};
 ghost use Rattle.ctc.specs.Runs.{TimersRequestOnTime, CountersRequestOnTime};

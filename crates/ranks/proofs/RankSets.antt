@@ -1,5 +1,5 @@
 -- What the operations on a set of ranks 0 to 15 make of its ranks.
-use Rattle.std.proofs.Common.{◌≡◌, ℕ, ◌-◌, ◌^◌, ◌<◌, ◌≤◌, Bool, true, false, cond, not, ◌&&◌, ◌||◌, eqb, ltb, ◌⊎◌, Some, None, sym, refl, ap, ◌∙◌, inl, inr, arith, pow_mono}
+use Rattle.std.proofs.Common.{◌≡◌, ℕ, ◌-◌, ◌^◌, ◌<◌, ◌≤◌, Bool, true, false, cond, not, ◌&&◌, ◌||◌, eqb, ltb, ◌⊎◌, Some, None, is_some, sym, refl, ap, ◌∙◌, inl, inr, arith, pow_mono}
 use mathlib.Core.Bool.{and_assoc, and_comm, or_comm}
 use mathlib.Core.Path.{fun_ext}
 use lib.Bits.{bit_and, bit_or}
@@ -7,7 +7,7 @@ use lib.Count.{count_leading_zeros, ones, leading_of_zero, leading_le}
 use Rattle.std.proofs.lemmas.Bool.{eq-eqb, ne_eqb, lt-ltb, le-ltb, cases_eq, cases_lt, and_right}
 use Rattle.std.proofs.lemmas.Nat.{pow_pos, pow_below}
 use Rattle.ranks.specs.declared.set.RankSet.{RankSet}
-use Rattle.ranks.specs.Ranks.{empty, adding, removing, both, below, bit, highest, how_many, is_some, above}
+use Rattle.ranks.specs.Ranks.{empty, adding, removing, both, below, bit, highest, how_many, above}
 use Rattle.ranks.specs.RankSets.{ranks, no_ranks, mask_of, inserted, removed, intersected}
 use Rattle.ranks.proofs.Digits.{bit-bit_and, bit-bit_or, bit_zero, bit_pow, bit_past, bit_not, highest_bit, how_many_bits}
 use Rattle.ranks.proofs.Sets.{highest_none, highest_agrees, how_many_agrees}
@@ -128,7 +128,6 @@ top_found a h = at (cases_eq a 0)
     at (inr e) = rw (ne_eqb a 0 e, highest_found a h (omega arith))
 
 pub empty_tested : (a : ℕ) → a < 65536 → eqb a 0 ≡ not (is_some (highest 16 (below 16 (bit a))))
-unfolding is_some
 empty_tested a h = at (cases_eq a 0)
   where
     at : (a ≡ 0) ⊎ (a ≡ 0 → ⊥) → eqb a 0 ≡ not (is_some (highest 16 (below 16 (bit a))))

@@ -34,10 +34,6 @@ unfoldable pub from_the_top : ℕ → (ℕ → Bool) → (ℕ → ℕ) → List 
 from_the_top zero p v = []
 from_the_top (suc n) p v = cond (p n) (v n ∷ from_the_top n p v) (from_the_top n p v)
 
-unfoldable pub is_some : Option ℕ → Bool
-is_some None = false
-is_some (Some r) = true
-
 -- whether the first rank is there, and above the second where that is there
 unfoldable pub above : Option ℕ → Option ℕ → Bool
 above None o = false

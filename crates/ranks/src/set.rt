@@ -1,6 +1,6 @@
 // A set of ranks.
-ghost use Rattle.std.specs.Prelude.{◌≡◌, not};
-ghost use Rattle.ranks.specs.Ranks.{adding, removing, both, below, highest, is_some, above, how_many};
+ghost use Rattle.std.specs.Prelude.{◌≡◌, not, is_some};
+ghost use Rattle.ranks.specs.Ranks.{adding, removing, both, below, highest, above, how_many};
 ghost use Rattle.ranks.specs.RankSets.{ranks, no_ranks, inserted, removed, intersected};
 
 use crate::bits;

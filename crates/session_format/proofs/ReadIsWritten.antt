@@ -1,9 +1,8 @@
 -- Writing what was read gives the bytes, and what was read can be written.
-use Rattle.std.proofs.Common.{◌≡◌, ℕ, ◌+◌, ◌*◌, ◌/◌, ◌%◌, ◌<◌, ◌≤◌, Bool, true, false, cond, ◌&&◌, eqb, ltb, ◌⊎◌, List, [], ◌∷◌, ◌++◌, length, get_or, is_ok, IfOk, Ok, Err, Result, sym, refl, ap, ◌∙◌, subst, inl, inr, arith, w8, Fits, ltb-false, eqb-true, leb-false, leb-true}
+use Rattle.std.proofs.Common.{◌≡◌, ℕ, ◌+◌, ◌*◌, ◌/◌, ◌%◌, ◌<◌, ◌≤◌, Bool, true, false, cond, ◌&&◌, eqb, ltb, ◌⊎◌, List, [], ◌∷◌, ◌++◌, length, get_or, All, is_ok, IfOk, Ok, Err, Result, sym, refl, ap, ◌∙◌, subst, inl, inr, arith, w8, Fits, ltb-false, eqb-true, leb-false, leb-true}
 use borrow.Author.Tests.{clash}
-use Rattle.std.proofs.ByRecursion.{All-from_get_or}
 use Rattle.std.proofs.lemmas.Bool.{cond_both}
-use Rattle.std.specs.List.{AllByRecursion as All}
+use Rattle.std.proofs.lemmas.List.Elements.{All-nil, All-cons, All-head, All-tail, All-from_get_or}
 use Rattle.session_format.proofs.WrittenIsRead.{length_calls}
 use Rattle.session_format.specs.Encoding.{ascii, call_of, call_bytes, well_formed_if, line_operand, bits_6_to_4, bits_3_to_0, bit_7, is_unused}
 use Rattle.session_format.specs.Laws.{HoldsCall, Holdable, WritesWhatWasRead}
@@ -107,16 +106,21 @@ writes_more : (letter first second : ℕ) (rest : List ℕ) (r : Result Call For
     → WritesAll (letter ∷ first ∷ second ∷ rest) (followed_by r (calls_in rest))
 writes_more letter first second rest (Ok call) e small formed more =
     let one : Writes letter first second call = writes_call letter first second call small e in
-    record { bytes_are = λ i. one.bytes i ++ (more formed).bytes_are i; each = (one.holds, (more formed).each) }
+    record { bytes_are = λ i. one.bytes i ++ (more formed).bytes_are i; each = All-cons HoldsCall call (calls_in rest) one.holds (more formed).each }
 writes_more letter first second rest (Err why) e small formed more = absurd (clash formed)
 
-writes_calls : (bytes : List ℕ) → All (λ b. b < 256) bytes → well_formed bytes ≡ true → WritesAll bytes (calls_in bytes)
+abbrev IsByte : ℕ → Type 0
+IsByte b = b < 256
+
+writes_calls : (bytes : List ℕ) → All IsByte bytes → well_formed bytes ≡ true → WritesAll bytes (calls_in bytes)
 unfolding well_formed calls_in
-writes_calls [] small formed = record { bytes_are = refl; each = tt }
+writes_calls [] small formed = record { bytes_are = refl; each = All-nil HoldsCall }
 writes_calls (letter ∷ []) small formed = absurd (clash formed)
 writes_calls (letter ∷ first ∷ []) small formed = absurd (clash formed)
 writes_calls (letter ∷ first ∷ second ∷ rest) small formed =
-    writes_more letter first second rest (call_of letter first second) refl small.1.1.0 formed (writes_calls rest small.1.1.1)
+    let from_second = All-tail IsByte first (second ∷ rest) (All-tail IsByte letter (first ∷ second ∷ rest) small) in
+    writes_more letter first second rest (call_of letter first second) refl (All-head IsByte second rest from_second) formed
+    (writes_calls rest (All-tail IsByte second rest from_second))
 
 -- ---- the session
 
@@ -156,23 +160,24 @@ record Written (bytes : List ℕ) (calls : List Call) : Type 0 where
   holdable : Holdable calls
   bytes_are : session_bytes calls ≡ bytes
 
-written : (bytes : List ℕ) → All (λ b. b < 256) bytes → (calls : List Call) → session_of bytes ≡ Ok calls → Written bytes calls
+written : (bytes : List ℕ) → All IsByte bytes → (calls : List Call) → session_of bytes ≡ Ok calls → Written bytes calls
 written [] small calls e = absurd (refused_not_ok _ calls e)
 written (low ∷ []) small calls e = absurd (refused_not_ok _ calls e)
 written (low ∷ high ∷ bytes) small calls e =
     let a : Accepted (low + 256 * high) bytes calls = accepted_counted (low + 256 * high) bytes calls e in
-    let all : WritesAll bytes calls = subst (WritesAll bytes) a.read (writes_calls bytes small.1.1 a.formed) in
+    let all : WritesAll bytes calls = subst (WritesAll bytes) a.read (writes_calls bytes (All-tail IsByte high bytes (All-tail IsByte low (high ∷ bytes) small)) a.formed) in
+    let low_is_byte : low < 256 = All-head IsByte low (high ∷ bytes) small in
     let count : length calls ≡ low + 256 * high = omega (arith, ap length all.bytes_are, length_calls calls, a.long) in
-    let lower : length calls % 256 ≡ low = omega (arith, small.0) in
-    let upper : length calls / 256 ≡ high = omega (arith, small.0) in
+    let lower : length calls % 256 ≡ low = omega arith in
+    let upper : length calls / 256 ≡ high = omega arith in
     record {
       holdable = record { few = omega (arith, a.few); each = all.each };
       bytes_are = λ i. lower i ∷ upper i ∷ all.bytes_are i;
     }
 
 module _ (bytes : List ℕ) (typed : (i : ℕ) → Fits w8 (get_or bytes i 0)) where
-  all_bytes : All (λ b. b < 256) bytes
-  all_bytes = All-from_get_or (λ b. b < 256) bytes 0 (λ i h. (typed i).fits)
+  all_bytes : All IsByte bytes
+  all_bytes = All-from_get_or IsByte bytes 0 (λ i h. (typed i).fits)
 
   pub writes_what_was_read : WritesWhatWasRead bytes
   writes_what_was_read calls e = (written bytes all_bytes calls e).bytes_are

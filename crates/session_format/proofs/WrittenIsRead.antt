@@ -1,7 +1,7 @@
 -- Reading what was written gives the calls.
-use Rattle.std.proofs.Common.{◌≡◌, ℕ, ◌+◌, ◌*◌, ◌%◌, ◌<◌, ◌≤◌, Bool, true, false, eqb, ltb, leb, List, [], ◌∷◌, ◌++◌, length, Ok, refl, ap, ◌∙◌, arith, length-append, le-ltb, eq-eqb, le-leb}
+use Rattle.std.proofs.Common.{◌≡◌, ℕ, ◌+◌, ◌*◌, ◌%◌, ◌<◌, ◌≤◌, Bool, true, false, eqb, ltb, leb, List, [], ◌∷◌, ◌++◌, length, All, Ok, refl, ap, ◌∙◌, arith, length-append, le-ltb, eq-eqb, le-leb}
 use borrow.Author.Tests.{lt-leb}
-use Rattle.std.specs.List.{AllByRecursion as All}
+use Rattle.std.proofs.lemmas.List.Elements.{All-head, All-tail}
 use Rattle.session_format.proofs.Shapes.{begins_with}
 use Rattle.session_format.specs.Encoding.{ascii, call_of, call_bytes, well_formed_if, line_operand, bits_6_to_4}
 use Rattle.session_format.specs.Laws.{HoldsCall, ReadsWhatIsWritten}
@@ -38,12 +38,12 @@ begins_back Reset rest h = begins_with (ascii "Z") 0 0 rest Reset refl
 formed_back : (calls : List Call) → All HoldsCall calls → well_formed (bytes_of_calls calls) ≡ true
 unfolding well_formed
 formed_back [] h = refl
-formed_back (call ∷ calls) h = (begins_back call (bytes_of_calls calls) h.0).formed ∙ formed_back calls h.1
+formed_back (call ∷ calls) h = (begins_back call (bytes_of_calls calls) (All-head HoldsCall call calls h)).formed ∙ formed_back calls (All-tail HoldsCall call calls h)
 
 calls_back : (calls : List Call) → All HoldsCall calls → calls_in (bytes_of_calls calls) ≡ calls
 unfolding calls_in
 calls_back [] h = refl
-calls_back (call ∷ calls) h = (begins_back call (bytes_of_calls calls) h.0).calls ∙ ap (λ l. call ∷ l) (calls_back calls h.1)
+calls_back (call ∷ calls) h = (begins_back call (bytes_of_calls calls) (All-head HoldsCall call calls h)).calls ∙ ap (λ l. call ∷ l) (calls_back calls (All-tail HoldsCall call calls h))
 
 length_call : (call : Call) → length (call_bytes call) ≡ 3
 length_call (Write port byte) = refl

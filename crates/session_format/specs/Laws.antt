@@ -1,6 +1,5 @@
 -- What holds of reading and writing together, over every session.
-use Rattle.std.specs.Prelude.{◌≡◌, ℕ, ◌+◌, ◌*◌, ◌<◌, ◌≤◌, List, length, take, Ok}
-use Rattle.std.specs.List.{AllByRecursion as All}
+use Rattle.std.specs.Prelude.{◌≡◌, ℕ, ◌+◌, ◌*◌, ◌<◌, ◌≤◌, List, length, take, All, Ok}
 use Rattle.session_format.specs.Reading.{most_calls, session_of}
 use Rattle.session_format.specs.Writing.{session_bytes}
 use Rattle.session_format.specs.declared.encoding.Call.{Call}

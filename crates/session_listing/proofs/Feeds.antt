@@ -2,7 +2,7 @@
 use Rattle.std.proofs.Common.{◌≡◌, ℕ, zero, suc, ◌+◌, ◌/◌, ◌%◌, ◌≤◌, Bool, true, false, cond, eqb, ltb, List, [], ◌∷◌, ◌++◌, length, get_or, Ok, Err, codes, decimal, Result, sym, refl, ap, ◌∙◌, append-nil, zero-add, arith, ne_eqb}
 use Rattle.std.proofs.lemmas.Bool.{cond_both}
 use Rattle.std.specs.Fmt.{digits, digit_glyph, digits_onto}
-use Rattle.std.specs.List.{AllByRecursion as All}
+use Rattle.std.specs.List.{AllByRecursion}
 use Rattle.session_format.specs.Encoding.{call_bytes}
 use Rattle.session_format.specs.Reading.{session_of}
 use Rattle.session_format.specs.Refusals.{number_of, reason}
@@ -20,7 +20,7 @@ use Rattle.session_listing.specs.Listing.{ended, call_lines, listed}
 no_feed : (byte : ℕ) (rest : List ℕ) → 48 ≤ byte → line_feeds (byte ∷ rest) ≡ line_feeds rest
 no_feed byte rest h = ap (λ b. cond b (suc (line_feeds rest)) (line_feeds rest)) (ne_eqb byte 10 (λ e. omega arith))
 
-no_feeds : (bytes rest : List ℕ) → All (λ b. 48 ≤ b) bytes → line_feeds (bytes ++ rest) ≡ line_feeds rest
+no_feeds : (bytes rest : List ℕ) → AllByRecursion (λ b. 48 ≤ b) bytes → line_feeds (bytes ++ rest) ≡ line_feeds rest
 no_feeds [] rest h = refl
 no_feeds (byte ∷ bytes) rest h = no_feed byte (bytes ++ rest) h.0 ∙ no_feeds bytes rest h.1
 
@@ -33,11 +33,11 @@ feeds_hex n rest = no_feeds (hex_byte n) rest (hex_digit_high (n / 16), (hex_dig
 glyph_high : (d : ℕ) → 48 ≤ digit_glyph false d
 glyph_high d = cond_both (ltb d 10) (48 + d) (87 + d) (λ g. 48 ≤ g) (λ e. omega arith) (λ e. omega arith)
 
-spelled_high : (k n : ℕ) (after : List ℕ) → All (λ b. 48 ≤ b) after → All (λ b. 48 ≤ b) (digits_onto k 10 false n after)
+spelled_high : (k n : ℕ) (after : List ℕ) → AllByRecursion (λ b. 48 ≤ b) after → AllByRecursion (λ b. 48 ≤ b) (digits_onto k 10 false n after)
 spelled_high zero n after h = h
 spelled_high (suc k) n after h =
     cond_both (eqb (n / 10) 0) (digit_glyph false (n % 10) ∷ after) (digits_onto k 10 false (n / 10) (digit_glyph false (n % 10) ∷ after))
-    (All (λ b. 48 ≤ b))
+    (AllByRecursion (λ b. 48 ≤ b))
     (λ e. (glyph_high (n % 10), h))
     (λ e. spelled_high k (n / 10) (digit_glyph false (n % 10) ∷ after) (glyph_high (n % 10), h))
 
