@@ -1,10 +1,9 @@
 // How the channels of a CTC count.
 use crate::steps::Step::*;
 use crate::steps::check_all;
-use std::test::Fail;
 
 #[test]
-fn timer_mode(rt: HostRuntime) -> Result<(), Fail> {
+fn timer_mode(rt: HostRuntime) {
     check_all(
         &rt,
         &[
@@ -125,7 +124,7 @@ fn timer_mode(rt: HostRuntime) -> Result<(), Fail> {
 }
 
 #[test]
-fn trigger_lines(rt: HostRuntime) -> Result<(), Fail> {
+fn trigger_lines(rt: HostRuntime) {
     check_all(
         &rt,
         &[
@@ -216,7 +215,7 @@ fn trigger_lines(rt: HostRuntime) -> Result<(), Fail> {
 }
 
 #[test]
-fn resets(rt: HostRuntime) -> Result<(), Fail> {
+fn resets(rt: HostRuntime) {
     check_all(
         &rt,
         &[

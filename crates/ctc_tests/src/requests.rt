@@ -4,10 +4,9 @@ use crate::steps::check_all;
 use card::{Bus, Chain, Refusal};
 use ctc::Ctc;
 use std::process::Abort;
-use std::test::Fail;
 
 #[test]
-fn services(rt: HostRuntime) -> Result<(), Fail> {
+fn services(rt: HostRuntime) {
     check_all(
         &rt,
         &[
@@ -111,7 +110,7 @@ fn services(rt: HostRuntime) -> Result<(), Fail> {
 }
 
 #[test]
-fn refusals(rt: HostRuntime) -> Result<(), Fail> {
+fn refusals(rt: HostRuntime) {
     check_all(
         &rt,
         &[
