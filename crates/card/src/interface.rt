@@ -52,6 +52,7 @@ pub trait Chain {
         ensures answer { result ≡ list_answer (waiting_number (meaning self.now)) buffer.old }
         ensures bytes { buffer.new ≡ listed_into (rules.waiting_bytes self.now) buffer.old };
 
+    // A law: each card proves it of its meaning, its rules and what it calls unaltered.
     ghost sentences: { Sentences Self meaning same rules };
 }
 

@@ -1,10 +1,10 @@
 // Sixteen bits, as the machine tests and counts them.
-ghost use Rattle.std.specs.Prelude.{◌≡◌, ◌-◌, if◌then◌else◌, Some, None, ◌==◌, bit_and, bit_or, count_ones, nat_eq, nat_lt};
+ghost use Rattle.std.specs.Prelude.{◌≡◌, ◌-◌, if◌then◌else◌, Some, None, bit_and, bit_or, count_ones, nat_eq, nat_lt};
 ghost use Rattle.std.specs.Int.Count.{count_leading_zeros};
 ghost use Rattle.ranks.specs.RankSets.{mask_of};
 
 pub(crate) fn none(bits: u16) -> bool
-    ensures { result ≡ (bits == 0) }
+    ensures { result ≡ nat_eq bits 0 }
 {
     bits == 0
 }

@@ -35,14 +35,14 @@ well_formed_if false call = Err MalformedCall
 -- what a letter and two operands say
 abbrev pub call_of : ℕ → ℕ → ℕ → Result Call FormatRefusal
 call_of letter first second =
-    cond (letter == (ascii "W")) (Ok (Write first second))
-    (cond (letter == (ascii "R")) (well_formed_if (is_unused second) (Read first))
-    (cond (letter == (ascii "L")) (well_formed_if (bits_6_to_4 second == 0) (Line first (bits_3_to_0 second) (bit_7 second)))
-    (cond (letter == (ascii "C")) (well_formed_if (is_unused second) (Clocks first))
-    (cond (letter == (ascii "A")) (well_formed_if (is_unused first && is_unused second) Acknowledge)
-    (cond (letter == (ascii "F")) (well_formed_if (is_unused second) (Fetch first))
-    (cond (letter == (ascii "I")) (well_formed_if (is_unused first && is_unused second) AskInt)
-    (cond (letter == (ascii "Z")) (well_formed_if (is_unused first && is_unused second) Reset)
+    cond (letter == ascii "W") (Ok (Write first second))
+    (cond (letter == ascii "R") (well_formed_if (is_unused second) (Read first))
+    (cond (letter == ascii "L") (well_formed_if (bits_6_to_4 second == 0) (Line first (bits_3_to_0 second) (bit_7 second)))
+    (cond (letter == ascii "C") (well_formed_if (is_unused second) (Clocks first))
+    (cond (letter == ascii "A") (well_formed_if (is_unused first && is_unused second) Acknowledge)
+    (cond (letter == ascii "F") (well_formed_if (is_unused second) (Fetch first))
+    (cond (letter == ascii "I") (well_formed_if (is_unused first && is_unused second) AskInt)
+    (cond (letter == ascii "Z") (well_formed_if (is_unused first && is_unused second) Reset)
     (Err MalformedCall))))))))
 
 -- the three bytes of a call
