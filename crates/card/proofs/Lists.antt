@@ -1,83 +1,60 @@
--- Putting vectors into a buffer, one rank after the other.
-use Rattle.std.proofs.Common.{◌≡◌, ℕ, suc, ◌+◌, ◌<◌, ◌≤◌, Bool, true, false, cond, ltb, List, [], ◌∷◌, ◌++◌, length, take, drop, set, Some, None, Ok, Err, sym, refl, ap, ◌∙◌, ap₂, subst₂, arith}
-use Rattle.std.proofs.lemmas.List.{append_assoc, append-nil, length-set, take-append-drop, take_more, take-set-le, drop-set-lt, drop-drop, get_or-set_same}
-use Rattle.std.proofs.lemmas.Bool.{ltb-false, cond-true, cond-false}
+-- Waiting lists: vectors put into a buffer, and what a list's answer tells.
+use Rattle.std.proofs.Common.{◌≡◌, ℕ, ◌+◌, ◌≤◌, Bool, true, false, cond, ltb, List, [], ◌++◌, length, map, drop, Ok, Err, sym, refl, ap, ◌∙◌, arith, zero-add, ltb-false}
+use Rattle.std.proofs.lemmas.Bool.{cond-true, cond-false}
+use Rattle.std.proofs.lemmas.List.{length-map}
+use Rattle.std.proofs.lemmas.List.Edits.{sets, sets-eq}
+use Rattle.ranks.specs.declared.set.RankSet.{RankSet}
+use Rattle.ranks.specs.Ranks.{how_many, from_the_top}
+use Rattle.ranks.specs.RankSets.{ranks}
+use Rattle.ranks.specs.RankLists.{rank_list}
+use Rattle.ranks.proofs.Sets.{from_the_top_length}
+use Rattle.ranks.proofs.RankLists.{rank_list_length, map_rank_list}
 use Rattle.card.specs.declared.refusals.Refusal.{Refusal}
 use Rattle.card.specs.declared.refusals.Refusal.TheVariants.{TooFewPlaces}
 use Rattle.card.specs.Listing.{places_of, list_answer, listed_into}
-use Rattle.ranks.specs.declared.set.RankSet.{RankSet}
-use Rattle.ranks.specs.Ranks.{highest, how_many, from_the_top}
-use Rattle.ranks.specs.RankSets.{ranks, removed}
-use Rattle.ranks.proofs.Sets.{from_the_top_length, from_the_top_none, from_the_top_first, one_fewer}
-use Rattle.ranks.proofs.RankSets.{ranks_removed}
 
-one_fewer_left : (s : RankSet) (r : ℕ) → Some r ≡ highest 16 (ranks s) → how_many 16 (ranks s) ≡ suc (how_many 16 (ranks (removed r s)))
-one_fewer_left s r e = one_fewer 16 (ranks s) r e ∙ ap (λ p. suc (how_many 16 p)) (sym (ranks_removed r s))
+-- the vectors of all ranks are put into what was the buffer at first, but for those of left, which come from place i on
+pub record Putting (v : ℕ → ℕ) (all buffer : List ℕ) (i : ℕ) (left now : List ℕ) : Type 0 where
+  pub put : sets now i (map v left) ≡ sets buffer 0 (map v all)
+  pub room : i + length left ≤ length now
 
-pub fewer_left : (s t : RankSet) (r : ℕ) → Some r ≡ highest 16 (ranks s) → t ≡ removed r s → how_many 16 (ranks t) < how_many 16 (ranks s)
-fewer_left s t r e q = let f = one_fewer_left s r e in let g = ap (λ u. how_many 16 (ranks u)) q in omega arith
+pub all_put : (v : ℕ → ℕ) (all buffer : List ℕ) (i : ℕ) (left now : List ℕ) → Putting v all buffer i left now → left ≡ [] → length all ≤ length buffer
+    → now ≡ map v all ++ drop (length all) buffer
+all_put v all buffer i left now h none fits =
+    let long : length (map v all) ≡ length all = length-map all v in
+    sym (ap (λ l. sets now i (map v l)) none) ∙ h.put ∙ sets-eq (map v all) buffer 0 (omega arith)
+    ∙ ap (λ n. map v all ++ drop n buffer) (zero-add (length (map v all)) ∙ long)
 
-module _ (v : ℕ → ℕ) where
-  -- i bytes of the list of all are put, and those of left are to come; buffer was the buffer at first
-  pub record Putting (all : RankSet) (buffer : List ℕ) (i : ℕ) (left : RankSet) (now : List ℕ) : Type 0 where
-    pub counted : i + how_many 16 (ranks left) ≡ how_many 16 (ranks all)
-    pub put : take i now ++ from_the_top 16 (ranks left) v ≡ from_the_top 16 (ranks all) v
-    pub behind : drop i now ≡ drop i buffer
+-- the list of the vectors of a set, by the answer that it gets
+module _ (v : ℕ → ℕ) (s : RankSet) (buffer : List ℕ) where
+  abbrev bytes : List ℕ
+  bytes = from_the_top 16 (ranks s) v
 
-  next_listed : (s : RankSet) (r : ℕ) → Some r ≡ highest 16 (ranks s) → from_the_top 16 (ranks s) v ≡ v r ∷ from_the_top 16 (ranks (removed r s)) v
-  next_listed s r e = from_the_top_first 16 (ranks s) v r e ∙ ap (λ p. v r ∷ from_the_top 16 p v) (sym (ranks_removed r s))
+  refused : (n : ℕ) (why : Refusal) → list_answer n buffer ≡ Err why → ltb (places_of buffer) n ≡ true
+  refused n why e = at (ltb (places_of buffer) n) e
+    where
+      at : (t : Bool) → cond t (Err TooFewPlaces) (Ok n) ≡ Err why → t ≡ true
+      at true h = refl
+      at false h = cc
 
-  module _ (all : RankSet) (buffer : List ℕ) (i : ℕ) (left : RankSet) (now : List ℕ) (h : Putting all buffer i left now) where
-    pub room_left : (r : ℕ) → Some r ≡ highest 16 (ranks left) → how_many 16 (ranks all) ≤ length buffer → length now ≡ length buffer → i < length now
-    room_left r e k l = let f = one_fewer_left left r e in let c = h.counted in omega arith
+  accepted : (n k : ℕ) → list_answer n buffer ≡ Ok k → ltb (places_of buffer) n ≡ false
+  accepted n k e = at (ltb (places_of buffer) n) e
+    where
+      at : (t : Bool) → cond t (Err TooFewPlaces) (Ok n) ≡ Ok k → t ≡ false
+      at false h = refl
+      at true h = cc
 
-    next : (r : ℕ) → Some r ≡ highest 16 (ranks left) → i < length now → Putting all buffer (i + 1) (removed r left) (set now i (v r))
-    next r e l =
-        let fewer = one_fewer_left left r e in
-        let front : take (i + 1) (set now i (v r)) ≡ take i now ++ v r ∷ [] =
-        take_more (set now i (v r)) i 0 (rw length-set l)
-        ∙ ap₂ (λ x y. x ++ y ∷ []) (take-set-le i now i (v r) (omega arith)) (get_or-set_same now i (v r) 0 l) in
-        record {
-          counted = let c = h.counted in omega arith;
-          put =
-              ap (λ x. x ++ from_the_top 16 (ranks (removed r left)) v) front
-              ∙ append_assoc (take i now) (v r ∷ []) (from_the_top 16 (ranks (removed r left)) v)
-              ∙ ap (λ x. take i now ++ x) (sym (next_listed left r e)) ∙ h.put;
-          behind =
-              drop-set-lt (i + 1) now i (v r) (omega arith) ∙ sym (drop-drop 1 i now) ∙ ap (drop 1) h.behind ∙ drop-drop 1 i buffer;
-        }
+  module _ (n : ℕ) (counted : n ≡ how_many 16 (ranks s)) where
+    long : length bytes ≡ n
+    long = from_the_top_length 16 (ranks s) v ∙ sym counted
 
-    pub put_next : (r x : ℕ) (t : RankSet) (after : List ℕ) → Some r ≡ highest 16 (ranks left) → i < length now → x ≡ v r → t ≡ removed r left → after ≡ set now i x → Putting all buffer (i + 1) t after
-    put_next r x t after e l p q o = subst₂ (Putting all buffer (i + 1)) (sym q) (sym (o ∙ ap (set now i) p)) (next r e l)
+    pub not_listed : (why : Refusal) → list_answer n buffer ≡ Err why → buffer ≡ listed_into bytes buffer
+    not_listed why e = sym (cond-true _ _ _ (ap (ltb (places_of buffer)) long ∙ refused n why e))
 
-    pub all_put : None ≡ highest 16 (ranks left) → now ≡ from_the_top 16 (ranks all) v ++ drop (how_many 16 (ranks all)) buffer
-    all_put e =
-        let none = from_the_top_none 16 (ranks left) v e in
-        let zero_left = sym (from_the_top_length 16 (ranks left) v) ∙ ap length none in
-        let whole : i ≡ how_many 16 (ranks all) = omega (arith, h.counted, zero_left) in
-        sym (take-append-drop i now)
-        ∙ ap₂ ◌++◌ (sym (append-nil (take i now)) ∙ ap (λ x. take i now ++ x) (sym none) ∙ h.put) (h.behind ∙ ap (λ n. drop n buffer) whole)
+    pub fits : (k : ℕ) → list_answer n buffer ≡ Ok k → length (rank_list s) ≤ length buffer
+    fits k e = let l = ltb-false (places_of buffer) n (accepted n k e) in let m = rank_list_length s in omega arith
 
--- what a list's answer tells of the places
-pub refused_for_places : (n : ℕ) (buffer : List ℕ) (why : Refusal) → Err why ≡ list_answer n buffer → ltb (places_of buffer) n ≡ true
-refused_for_places n buffer why e = at (ltb (places_of buffer) n) e
-  where
-    at : (t : Bool) → Err why ≡ cond t (Err TooFewPlaces) (Ok n) → t ≡ true
-    at true h = refl
-    at false h = cc
-
-pub accepted_for_places : (n k : ℕ) (buffer : List ℕ) → Ok k ≡ list_answer n buffer → ltb (places_of buffer) n ≡ false
-accepted_for_places n k buffer e = at (ltb (places_of buffer) n) e
-  where
-    at : (t : Bool) → Ok k ≡ cond t (Err TooFewPlaces) (Ok n) → t ≡ false
-    at false h = refl
-    at true h = cc
-
-pub accepted_fits : (n m k : ℕ) (buffer : List ℕ) → m ≡ n → Ok k ≡ list_answer m buffer → n ≤ length buffer
-accepted_fits n m k buffer p e = let l = ltb-false (places_of buffer) m (accepted_for_places m k buffer e) in omega arith
-
-pub not_listed : (n : ℕ) (bytes buffer : List ℕ) → length bytes ≡ n → ltb (places_of buffer) n ≡ true → buffer ≡ listed_into bytes buffer
-not_listed n bytes buffer k t = sym (cond-true _ _ _ (ap (ltb (places_of buffer)) k ∙ t))
-
-pub listed : (n : ℕ) (bytes buffer now : List ℕ) → length bytes ≡ n → ltb (places_of buffer) n ≡ false → now ≡ bytes ++ drop n buffer → now ≡ listed_into bytes buffer
-listed n bytes buffer now k t h = h ∙ ap (λ z. bytes ++ drop z buffer) (sym k) ∙ sym (cond-false _ _ _ (ap (ltb (places_of buffer)) k ∙ t))
+    pub listed : (k : ℕ) (now : List ℕ) → list_answer n buffer ≡ Ok k → now ≡ map v (rank_list s) ++ drop (length (rank_list s)) buffer → now ≡ listed_into bytes buffer
+    listed k now e h =
+        h ∙ (λ i. map_rank_list v s i ++ drop ((rank_list_length s ∙ sym counted ∙ sym long) i) buffer)
+        ∙ sym (cond-false _ _ _ (ap (ltb (places_of buffer)) long ∙ accepted n k e))

@@ -1,7 +1,8 @@
 // The waiting list of a card with up to sixteen ranks.
-ghost use Rattle.std.specs.Prelude.{◌≡◌, ℕ, ◌<◌, ◌≤◌, ◌++◌, length, drop, slice_set};
+ghost use Rattle.std.specs.Prelude.{◌≡◌, ℕ, ◌≤◌, ◌++◌, length, map, drop};
 ghost use Rattle.ranks.specs.Ranks.{how_many, from_the_top};
 ghost use Rattle.ranks.specs.RankSets.{ranks};
+ghost use Rattle.ranks.specs.RankLists.{rank_list};
 ghost use Rattle.card.specs.Listing.{places_of, list_answer, listed_into};
 
 use crate::refusals::Refusal;
@@ -43,31 +44,16 @@ pub fn list_vectors<C: Vectors>(
     ensures answer { result ≡ list_answer (how_many 16 (ranks waiting)) buffer.old }
     ensures bytes { buffer.new ≡ listed_into (from_the_top 16 (ranks waiting) (C.Vectors.vectors card.now)) buffer.old }
 {
-    match check_room(waiting.len(), buffer) {
-        Ok(count) => {
-            put_vectors(card, waiting, buffer);
-            Ok(count)
-        }
-        Err(refusal) => Err(refusal),
-    }
+    let count = check_room(waiting.len(), buffer)?;
+    put_vectors(card, waiting, buffer);
+    Ok(count)
 }
 
 fn put_vectors<C: Vectors>(card: &C, waiting: RankSet, buffer: &mut [u8])
-    requires { how_many 16 (ranks waiting) ≤ length buffer.old }
-    ensures { buffer.new ≡ from_the_top 16 (ranks waiting) (C.Vectors.vectors card.now) ++ drop (how_many 16 (ranks waiting)) buffer.old }
+    requires { length (rank_list waiting) ≤ length buffer.old }
+    ensures { buffer.new ≡ map (C.Vectors.vectors card.now) (rank_list waiting) ++ drop (length (rank_list waiting)) buffer.old }
 {
-    let mut left = waiting;
-    let mut place = 0;
-    while let Some(rank) = left.highest() {
-        put(buffer, place, card.vector(rank));
-        left.remove(rank);
-        place += 1;
+    for (place, rank) in waiting.into_iter().enumerate() {
+        buffer[place] = card.vector(rank);
     }
-}
-
-fn put(buffer: &mut [u8], place: usize, byte: u8)
-    requires { place < length buffer.old }
-    ensures { buffer.new ≡ slice_set buffer.old place byte }
-{
-    buffer[place] = byte;
 }

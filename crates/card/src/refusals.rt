@@ -17,12 +17,12 @@ pub enum Refusal {
     TooFewPlaces,
 }
 
-impl Refusal {
-    // The number of the refusal in docs/CARDS.md.
-    pub fn number(self) -> u8
-        ensures { result ≡ number_of self }
-    {
-        match self {
+// The number of the refusal in docs/CARDS.md.
+impl From<Refusal> for u8 {
+    ghost from_gives = { λ refusal number. number ≡ number_of refusal };
+
+    fn from(refusal: Refusal) -> u8 {
+        match refusal {
             Refusal::PortNotTaken => 1,
             Refusal::NoSuchLine => 2,
             Refusal::NoSuchRegister => 3,

@@ -78,13 +78,15 @@ impl CountStage {
         ensures answer { result ≡ clock_times_out divisor self.old }
         ensures after { self.new ≡ clocked divisor self.old }
     {
-        let count = u32::from(self.prescaler) + 1;
-        if count < u32::from(divisor) {
-            self.prescaler = count as u16;
-            false
-        } else {
-            self.clear_prescaler();
-            self.step()
+        match self.prescaler.checked_add(1) {
+            Some(count) if count < divisor => {
+                self.prescaler = count;
+                false
+            }
+            _ => {
+                self.clear_prescaler();
+                self.step()
+            }
         }
     }
 }

@@ -85,7 +85,7 @@ impl Channel {
     pub fn take_control_word(&mut self, word: u8)
         ensures { self.new ≡ control_taken word self.old }
     {
-        let control = Control::of_word(word);
+        let control = Control::from(word);
         if self.control.restarts_prescaler(control) {
             self.stage.clear_prescaler();
         }

@@ -17,6 +17,20 @@ pub struct Control {
     start_on_trigger: bool,
 }
 
+impl From<u8> for Control {
+    ghost from_gives = { λ word control. control ≡ control_of word };
+
+    fn from(word: u8) -> Control {
+        Control {
+            interrupt: is_set(word, 7),
+            counter_mode: is_set(word, 6),
+            by_256: is_set(word, 5),
+            rising_edge: is_set(word, 4),
+            start_on_trigger: is_set(word, 3),
+        }
+    }
+}
+
 impl Control {
     pub(crate) fn cleared() -> Control
         ensures { result ≡ cleared }
@@ -27,18 +41,6 @@ impl Control {
             by_256: false,
             rising_edge: false,
             start_on_trigger: false,
-        }
-    }
-
-    pub(crate) fn of_word(word: u8) -> Control
-        ensures { result ≡ control_of word }
-    {
-        Control {
-            interrupt: is_set(word, 7),
-            counter_mode: is_set(word, 6),
-            by_256: is_set(word, 5),
-            rising_edge: is_set(word, 4),
-            start_on_trigger: is_set(word, 3),
         }
     }
 

@@ -1,5 +1,5 @@
 -- Laws of sets of ranks.
-use Rattle.std.proofs.Common.{◌≡◌, ℕ, zero, suc, ◌+◌, ◌<◌, ◌≤◌, Bool, true, false, cond, not, ◌&&◌, eqb, ◌⊎◌, [], ◌∷◌, length, Some, None, Option, sym, refl, ap, ◌∙◌, subst, inl, inr, suc-add, zero-add, one-add, arith}
+use Rattle.std.proofs.Common.{◌≡◌, ℕ, zero, suc, ◌+◌, ◌<◌, ◌≤◌, Bool, true, false, cond, not, ◌&&◌, eqb, ◌⊎◌, [], ◌∷◌, length, map, Some, None, Option, sym, refl, ap, ◌∙◌, subst, inl, inr, suc-add, zero-add, one-add, arith}
 use Rattle.std.proofs.lemmas.Bool.{eq-eqb, ne_eqb, cases_eq, and_right}
 use Rattle.ranks.specs.Ranks.{removing, highest, how_many, from_the_top}
 
@@ -96,6 +96,17 @@ from_the_top_first (suc n) p v r e = at (p n) (from_the_top_first n p v r) e
         let q : r ≡ n = cc in
         rw (q, eq-eqb n n refl) (ap (λ l. v n ∷ l) (sym gone))
     at false f h = rw (and_right (not (eqb n r)) false refl) (f h)
+
+-- the list of v's values is v of the list of ranks
+pub map_from_the_top : (n : ℕ) (p : ℕ → Bool) (v : ℕ → ℕ) → map v (from_the_top n p (λ rank. rank)) ≡ from_the_top n p v
+unfolding from_the_top
+map_from_the_top zero p v = refl
+map_from_the_top (suc n) p v = at (p n) (map_from_the_top n p v)
+  where
+    at : (t : Bool) → map v (from_the_top n p (λ rank. rank)) ≡ from_the_top n p v
+        → map v (cond t (n ∷ from_the_top n p (λ rank. rank)) (from_the_top n p (λ rank. rank))) ≡ cond t (v n ∷ from_the_top n p v) (from_the_top n p v)
+    at true h = ap (λ l. v n ∷ l) h
+    at false h = h
 
 -- the count is the length of that list
 pub how_many_agrees : (n : ℕ) (p q : ℕ → Bool) → ((k : ℕ) → k < n → p k ≡ q k) → how_many n p ≡ how_many n q

@@ -1,2 +1,3 @@
 pub mod Ranks
 pub mod RankSets
+pub mod RankLists

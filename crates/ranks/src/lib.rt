@@ -2,6 +2,8 @@
 #![tactic(auto)]
 
 mod bits;
+pub mod from_the_top;
 pub mod set;
 
+pub use from_the_top::FromTheTop;
 pub use set::RankSet;

@@ -11,17 +11,19 @@ pub struct RankSet {
     bits: u16,
 }
 
+impl From<u16> for RankSet {
+    ghost from_gives = { λ b s. s ≡ record { bits = b } };
+
+    fn from(bits: u16) -> RankSet {
+        RankSet { bits }
+    }
+}
+
 impl RankSet {
     pub fn empty() -> RankSet
         ensures { result ≡ no_ranks }
     {
         RankSet { bits: 0 }
-    }
-
-    pub fn from_bits(bits: u16) -> RankSet
-        ensures { result ≡ record { bits = bits } }
-    {
-        RankSet { bits }
     }
 
     pub fn is_empty(self) -> bool
