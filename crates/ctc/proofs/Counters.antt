@@ -13,7 +13,8 @@ use Rattle.ctc_channel.specs.declared.channel.Channel.{Channel}
 use Rattle.ctc.specs.declared.chip.Ctc.{Ctc}
 use Rattle.ctc_channel.specs.ControlWords.{differ, edge_acts}
 use Rattle.ctc_channel.specs.Channels.{line_changed, line_raises, constant_taken}
-use Rattle.ctc.specs.Chip.{takes, channel_of, channel_at, line_changed_at, line_set, written}
+use Rattle.ctc.specs.Numbers.{channel_of}
+use Rattle.ctc.specs.Chip.{takes, channel_at, line_changed_at, line_set, written}
 use Rattle.ctc.specs.Runs.{after, pulsed, requests, CountersRequestOnTime}
 use Rattle.ctc.proofs.Requests.{Seen, seen_there, seen_after, channel_below, written_takes, seen_started, fresh_start, runs}
 

@@ -1,4 +1,5 @@
 pub mod OnTheChain
 pub mod Requests
+pub mod Clocks
 pub mod Timers
 pub mod Counters

@@ -12,11 +12,11 @@ use Rattle.ranks.proofs.RankSets.{inserted_in_both}
 use Rattle.count_stage.specs.Stage.{started, with_constant}
 use Rattle.ctc_channel.specs.declared.channel.Phase.TheVariants.{Armed, Running}
 use Rattle.ctc_channel.specs.declared.channel.Channel.{Channel}
-use Rattle.ctc.specs.declared.chip.Role.TheVariants.{Constant, ControlWord, VectorHead, NotAwaited}
 use Rattle.ctc.specs.declared.chip.Ctc.{Ctc}
-use Rattle.ctc_channel.specs.ControlWords.{is_control_word, starts_armed}
+use Rattle.ctc_channel.specs.ControlWords.{starts_armed}
 use Rattle.ctc_channel.specs.Channels.{is_stopped, new_channel, constant_taken}
-use Rattle.ctc.specs.Chip.{takes, channel_of, channel_at, rank_of, four_ranks, channel_became, role_in, written_as, written}
+use Rattle.ctc.specs.Numbers.{channel_of, rank_of}
+use Rattle.ctc.specs.Chip.{takes, channel_at, four_ranks, channel_became, role_of, role_in, written_if_any, written}
 use Rattle.ctc.specs.Runs.{after, requests, Starts}
 use Rattle.ctc.specs.FourRanks.{four}
 
@@ -105,8 +105,8 @@ module _ (c : Ctc) (port t : ℕ) (starts : Starts c port t) where
 
   constant_written : written c port t ≡ channel_became k (constant_taken t before) false c
   constant_written =
-      cond-true (takes c port) (written_as (role_in c port t) k t c) c starts.takes_port
-      ∙ ap (λ b. written_as (cond b Constant (cond (is_control_word t) ControlWord (cond (eqb k 0) VectorHead NotAwaited))) k t c) starts.awaited
+      cond-true (takes c port) (written_if_any (role_in c port t) k t c) c starts.takes_port
+      ∙ ap (λ b. written_if_any (role_of k b t) k t c) starts.awaited
 
   pub written_takes : takes (written c port t) port ≡ true
   written_takes = ap (λ d. takes d port) constant_written ∙ starts.takes_port

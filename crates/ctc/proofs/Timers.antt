@@ -8,7 +8,8 @@ use Rattle.ctc_channel.specs.declared.channel.Channel.{Channel}
 use Rattle.ctc.specs.declared.chip.Ctc.{Ctc}
 use Rattle.ctc_channel.specs.ControlWords.{divisor_of}
 use Rattle.ctc_channel.specs.Channels.{is_running, with_stage, counts_clocks, channel_clocked, clock_raises, constant_taken}
-use Rattle.ctc.specs.Chip.{channel_of, channel_at, clocked_at, ctc_clocked, written}
+use Rattle.ctc.specs.Numbers.{channel_of}
+use Rattle.ctc.specs.Chip.{channel_at, clocked_at, ctc_clocked, written}
 use Rattle.ctc.specs.Runs.{after, requests, TimersRequestOnTime}
 use Rattle.ctc.proofs.Requests.{Seen, seen_beside, seen_there, seen_after, channel_below, seen_started, fresh_start, runs}
 

@@ -1,5 +1,5 @@
 -- The registers of a CTC, and what each call makes of them.
-use Rattle.std.specs.Prelude.{ℕ, ◌+◌, ◌-◌, ◌*◌, ◌/◌, ◌%◌, Bool, cond, List, [], ◌∷◌, Some, None, Option, ◌==◌, nat_lt, slice_index_or, slice_set}
+use Rattle.std.specs.Prelude.{◌≡◌, ℕ, ◌+◌, ◌*◌, ◌/◌, Bool, cond, [], ◌∷◌, map, Some, None, Ok, Err, Option, Result, ◌==◌, nat_lt, slice_index_or, slice_set}
 use Rattle.ranks.specs.declared.set.RankSet.{RankSet}
 use Rattle.ranks.specs.Ranks.{bit, highest}
 use Rattle.ranks.specs.RankSets.{ranks, no_ranks, inserted, removed, intersected}
@@ -7,8 +7,9 @@ use Rattle.card.specs.declared.refusals.Refusal.{Refusal}
 use Rattle.card.specs.declared.refusals.Refusal.TheVariants.{PortNotTaken, NoSuchLine, ByteNotAwaited}
 use Rattle.ctc_channel.specs.declared.channel.Channel.{Channel}
 use Rattle.ctc.specs.declared.chip.Role.{Role}
-use Rattle.ctc.specs.declared.chip.Role.TheVariants.{Constant, ControlWord, VectorHead, NotAwaited}
+use Rattle.ctc.specs.declared.chip.Role.TheVariants.{Constant, ControlWord, VectorHead}
 use Rattle.ctc.specs.declared.chip.Ctc.{Ctc}
+use Rattle.ctc.specs.Numbers.{channel_of, rank_of, channel_ranked}
 use Rattle.ctc_channel.specs.ControlWords.{is_control_word}
 use Rattle.ctc_channel.specs.Channels.{new_channel, channel_reset, constant_taken, control_taken, channel_clocked, clock_raises, line_changed, line_raises}
 
@@ -16,17 +17,8 @@ use Rattle.ctc_channel.specs.Channels.{new_channel, channel_reset, constant_take
 abbrev pub takes : Ctc → ℕ → Bool
 takes c port = port / 4 == c.port / 4
 
-abbrev pub channel_of : ℕ → ℕ
-channel_of port = port % 4
-
 abbrev pub channel_at : ℕ → Ctc → Channel
 channel_at k c = slice_index_or c.channels k new_channel
-
-abbrev pub rank_of : ℕ → ℕ
-rank_of channel = 3 - channel
-
-abbrev pub channel_ranked : ℕ → ℕ
-channel_ranked rank = 3 - rank
 
 -- the ranks of a CTC are 0 to 3
 abbrev pub four_ranks : RankSet
@@ -68,16 +60,13 @@ raised k c = with_rank_sets (inserted (rank_of k) c.waiting) c.service c
 abbrev pub with_channel : ℕ → Channel → RankSet → Ctc → Ctc
 with_channel k x w c = record { port = c.port; vector = c.vector; channels = slice_set c.channels k x; waiting = w; service = c.service }
 
-abbrev pub reset_at : ℕ → List Channel → List Channel
-reset_at k l = slice_set l k (channel_reset (slice_index_or l k new_channel))
-
 -- a reset clears the vector and both sets, and resets every channel
 abbrev pub ctc_reset : Ctc → Ctc
 ctc_reset c =
     record {
       port = c.port;
       vector = 0;
-      channels = reset_at 3 (reset_at 2 (reset_at 1 (reset_at 0 c.channels)));
+      channels = map channel_reset c.channels;
       waiting = no_ranks;
       service = no_ranks;
     }
@@ -86,6 +75,10 @@ ctc_reset c =
 abbrev pub channel_became : ℕ → Channel → Bool → Ctc → Ctc
 channel_became k x raises c = with_channel k x (cond raises (inserted (rank_of k) c.waiting) c.waiting) c
 
+-- a step of channel k, by what it may answer and leave of the channel: the request is raised if it answers so
+abbrev pub StepsChannel : (Channel → Bool → Channel → Type 0) → ℕ → Ctc → Ctc → Type 0
+StepsChannel step k c d = (raises : Bool) × (x : Channel) × step (channel_at k c) raises x × (d ≡ channel_became k x raises c)
+
 -- a clock goes to every channel
 abbrev pub clocked_at : ℕ → Ctc → Ctc
 clocked_at k c = channel_became k (channel_clocked (channel_at k c)) (clock_raises (channel_at k c)) c
@@ -93,12 +86,20 @@ clocked_at k c = channel_became k (channel_clocked (channel_at k c)) (clock_rais
 abbrev pub ctc_clocked : Ctc → Ctc
 ctc_clocked c = clocked_at 3 (clocked_at 2 (clocked_at 1 (clocked_at 0 c)))
 
--- what a byte is to a channel: its constant, if it awaits one; else a control word, if bit 0 is set; else, on channel 0,
--- the head of the vector
-abbrev pub role_of : ℕ → Bool → ℕ → Role
-role_of channel awaits byte = cond awaits Constant (cond (is_control_word byte) ControlWord (cond (channel == 0) VectorHead NotAwaited))
+-- a call is refused off the card's ports
+abbrev pub port_refusal : Ctc → ℕ → Option Refusal
+port_refusal c port = cond (takes c port) None (Some PortNotTaken)
 
-abbrev pub role_in : Ctc → ℕ → ℕ → Role
+-- what a byte is to a channel: its constant, if it awaits one; else a control word, if bit 0 is set; else, on channel 0,
+-- the head of the vector; on the others it is refused
+abbrev pub role_of : ℕ → Bool → ℕ → Result Role Refusal
+role_of channel awaits byte =
+    cond awaits (Ok Constant)
+    (cond (is_control_word byte) (Ok ControlWord)
+    (cond (channel == 0) (Ok VectorHead)
+    (Err ByteNotAwaited)))
+
+abbrev pub role_in : Ctc → ℕ → ℕ → Result Role Refusal
 role_in c port byte = role_of (channel_of port) (channel_at (channel_of port) c).awaits byte
 
 -- a control word with bit 7 clear drops a waiting request
@@ -110,23 +111,24 @@ abbrev pub written_as : Role → ℕ → ℕ → Ctc → Ctc
 written_as Constant k byte c = with_channel k (constant_taken byte (channel_at k c)) c.waiting c
 written_as ControlWord k byte c = control_set k byte c
 written_as VectorHead k byte c = record { port = c.port; vector = byte; channels = c.channels; waiting = c.waiting; service = c.service }
-written_as NotAwaited k byte c = c
 
-abbrev pub refused_as : Role → Option Refusal
-refused_as Constant = None
-refused_as ControlWord = None
-refused_as VectorHead = None
-refused_as NotAwaited = Some ByteNotAwaited
+abbrev pub written_if_any : Result Role Refusal → ℕ → ℕ → Ctc → Ctc
+written_if_any (Ok role) k byte c = written_as role k byte c
+written_if_any (Err why) k byte c = c
+
+abbrev pub refused_if_none : Result Role Refusal → Option Refusal
+refused_if_none (Ok role) = None
+refused_if_none (Err why) = Some why
 
 abbrev pub write_refusal : Ctc → ℕ → ℕ → Option Refusal
-write_refusal c port byte = cond (takes c port) (refused_as (role_in c port byte)) (Some PortNotTaken)
+write_refusal c port byte = cond (takes c port) (refused_if_none (role_in c port byte)) (Some PortNotTaken)
 
 abbrev pub written : Ctc → ℕ → ℕ → Ctc
-written c port byte = cond (takes c port) (written_as (role_in c port byte) (channel_of port) byte c) c
+written c port byte = cond (takes c port) (written_if_any (role_in c port byte) (channel_of port) byte c) c
 
 -- a read gives the counter, and moves nothing
 abbrev pub read_refusal : Ctc → ℕ → Option Refusal
-read_refusal c port = cond (takes c port) None (Some PortNotTaken)
+read_refusal c port = port_refusal c port
 
 abbrev pub counter_at : Ctc → ℕ → ℕ
 counter_at c port = (channel_at (channel_of port) c).stage.counter

@@ -1,3 +1,4 @@
+pub mod Numbers
 pub mod Chip
 pub mod Card
 pub mod Runs

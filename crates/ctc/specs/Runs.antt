@@ -6,7 +6,8 @@ use Rattle.ctc_channel.specs.declared.channel.Phase.TheVariants.{Stopped}
 use Rattle.ctc_channel.specs.declared.control.Control.{Control}
 use Rattle.ctc.specs.declared.chip.Ctc.{Ctc}
 use Rattle.ctc_channel.specs.ControlWords.{divisor_of, starts_armed}
-use Rattle.ctc.specs.Chip.{takes, channel_of, channel_at, rank_of, waiting_set, written, ctc_clocked, line_set}
+use Rattle.ctc.specs.Numbers.{channel_of, rank_of}
+use Rattle.ctc.specs.Chip.{takes, channel_at, waiting_set, written, ctc_clocked, line_set}
 
 -- the card after n rounds of next
 unfoldable pub after : ℕ → (Ctc → Ctc) → Ctc → Ctc

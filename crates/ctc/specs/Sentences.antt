@@ -1,21 +1,23 @@
 -- A CTC shows every sentence on cards.
-use Rattle.std.specs.Prelude.{◌≡◌, ℕ, ◌<◌, Bool, true, false, cond, not, Some, None, Option, nat_lt, refl}
+use Rattle.std.specs.Prelude.{◌≡◌, ℕ, ◌<◌, Bool, true, false, cond, not, Some, None, Ok, Err, Option, Result, ◌==◌, nat_lt, refl}
 use Rattle.std.proofs.Common.{arith, sym, ◌∙◌, ap, ap₂}
 use Rattle.std.proofs.lemmas.Bool.{lt-ltb, false≢true}
 use Rattle.ranks.specs.RankSets.{ranks, intersected}
 use Rattle.ranks.proofs.Sets.{from_the_top_length}
 use Rattle.ranks.proofs.RankSets.{ranks_none, removed_from_both, inserted_in_both}
 use Rattle.card.specs.declared.refusals.Refusal.{Refusal}
-use Rattle.card.specs.declared.refusals.Refusal.TheVariants.{PortNotTaken, NoSuchLine}
+use Rattle.card.specs.declared.refusals.Refusal.TheVariants.{PortNotTaken, NoSuchLine, ByteNotAwaited}
 use Rattle.card.specs.Refusals.{is_refused, refused_by_1}
 use Rattle.card.specs.Meaning.{rank_acknowledged, rank_returned, with_sets, rank_taken, rank_ended, meaning_acknowledged, meaning_returned}
 use Rattle.card.specs.Sentences.{KeptOnTheBus, Sentences}
 use Rattle.card.proofs.Meanings.{acknowledged_waits, no_pull_takes_none, no_service_ends_none, nothing_moved}
 use Rattle.card.proofs.PlainCards.{plain_unaltered}
+use Rattle.ctc_channel.specs.ControlWords.{is_control_word}
 use Rattle.ctc.specs.declared.chip.Role.{Role}
-use Rattle.ctc.specs.declared.chip.Role.TheVariants.{Constant, ControlWord, VectorHead, NotAwaited}
+use Rattle.ctc.specs.declared.chip.Role.TheVariants.{Constant, ControlWord, VectorHead}
 use Rattle.ctc.specs.declared.chip.Ctc.{Ctc}
-use Rattle.ctc.specs.Chip.{four_ranks, takes, channel_of, role_in, written_as, refused_as, line_changed_at}
+use Rattle.ctc.specs.Numbers.{channel_of}
+use Rattle.ctc.specs.Chip.{four_ranks, takes, channel_at, role_of, role_in, written_if_any, refused_if_none, line_changed_at}
 use Rattle.ctc.specs.Card.{ctc_meaning, taken_if_any, ended_if_any, ctc_rules}
 use Rattle.ctc.specs.FourRanks.{four, below_four}
 
@@ -48,11 +50,11 @@ keeps_either_way : (t : Bool) (c d e : Ctc) → Keeps c d → Keeps c e → Keep
 keeps_either_way true c d e p q = p
 keeps_either_way false c d e p q = q
 
-written_keeps : (role : Role) (k b : ℕ) (c : Ctc) → Keeps c (written_as role k b c)
-written_keeps Constant k b c = keeps c _ refl refl
-written_keeps ControlWord k b c = keeps c _ refl refl
-written_keeps VectorHead k b c = keeps c _ refl refl
-written_keeps NotAwaited k b c = nothing_moved (ctc_meaning c)
+written_keeps : (role : Result Role Refusal) (k b : ℕ) (c : Ctc) → Keeps c (written_if_any role k b c)
+written_keeps (Ok Constant) k b c = keeps c _ refl refl
+written_keeps (Ok ControlWord) k b c = keeps c _ refl refl
+written_keeps (Ok VectorHead) k b c = keeps c _ refl refl
+written_keeps (Err why) k b c = nothing_moved (ctc_meaning c)
 
 -- a call that is refused off the card's ports, and by w on them
 refused_stays : (t : Bool) (w : Option Refusal) (c d : Ctc) → (is_refused w ≡ true → c ≡ d) → is_refused (cond t w (Some PortNotTaken)) ≡ true → c ≡ cond t d c
@@ -64,19 +66,20 @@ unfolding refused_by_1
 off_port true w h = h
 off_port false w h = refl
 
-refused_role_stays : (role : Role) (k b : ℕ) (c : Ctc) → is_refused (refused_as role) ≡ true → c ≡ written_as role k b c
+refused_role_stays : (role : Result Role Refusal) (k b : ℕ) (c : Ctc) → is_refused (refused_if_none role) ≡ true → c ≡ written_if_any role k b c
 unfolding is_refused
-refused_role_stays NotAwaited k b c h = refl
-refused_role_stays Constant k b c h = absurd (false≢true h)
-refused_role_stays ControlWord k b c h = absurd (false≢true h)
-refused_role_stays VectorHead k b c h = absurd (false≢true h)
+refused_role_stays (Err why) k b c h = refl
+refused_role_stays (Ok role) k b c h = absurd (false≢true h)
 
-role_not_by_1 : (role : Role) → refused_by_1 (refused_as role) ≡ false
+role_not_by_1 : (k b : ℕ) (awaits : Bool) → refused_by_1 (refused_if_none (role_of k awaits b)) ≡ false
 unfolding refused_by_1
-role_not_by_1 NotAwaited = refl
-role_not_by_1 Constant = refl
-role_not_by_1 ControlWord = refl
-role_not_by_1 VectorHead = refl
+role_not_by_1 k b true = refl
+role_not_by_1 k b false = at (is_control_word b) (k == 0)
+  where
+    at : (control first : Bool) → refused_by_1 (refused_if_none (cond control (Ok ControlWord) (cond first (Ok VectorHead) (Err ByteNotAwaited)))) ≡ false
+    at true first = refl
+    at false true = refl
+    at false false = refl
 
 refused_line_stays : (t : Bool) (c d : Ctc) → is_refused (cond t (Some NoSuchLine) None) ≡ true → c ≡ cond t c d
 unfolding is_refused
@@ -100,7 +103,7 @@ ctc_sentences =
       ranks_below_size = λ c. record { waiting = below_four c.waiting; service = below_four c.service };
       refused_by_1_exactly_off_its_ports = λ c.
           record {
-            write = λ p b. off_port (takes c p) (refused_as (role_in c p b)) (role_not_by_1 (role_in c p b));
+            write = λ p b. off_port (takes c p) (refused_if_none (role_in c p b)) (role_not_by_1 (channel_of p) b (channel_at (channel_of p) c).awaits);
             read = λ p. off_port (takes c p) None none_not_by_1;
             line = λ p l high. off_port (takes c p) (cond (nat_lt 3 l) (Some NoSuchLine) None) (line_not_by_1 (nat_lt 3 l));
           };
@@ -116,7 +119,7 @@ ctc_sentences =
       clock_keeps = λ c. keeps c _ refl refl;
       line_keeps = λ c p l high.
           keeps_either_way (takes c p) c _ c (keeps_either_way (nat_lt 3 l) c c _ (nothing_moved (ctc_meaning c)) (keeps c (line_changed_at l high c) refl refl)) (nothing_moved (ctc_meaning c));
-      refused_write_alters_nothing = λ c p b. refused_stays (takes c p) (refused_as (role_in c p b)) c _ (refused_role_stays (role_in c p b) (channel_of p) b c);
+      refused_write_alters_nothing = λ c p b. refused_stays (takes c p) (refused_if_none (role_in c p b)) c _ (refused_role_stays (role_in c p b) (channel_of p) b c);
       refused_read_alters_nothing = λ c p h. refl;
       refused_line_alters_nothing = λ c p l high. refused_stays (takes c p) (cond (nat_lt 3 l) (Some NoSuchLine) None) c _ (refused_line_stays (nat_lt 3 l) c (line_changed_at l high c));
     }

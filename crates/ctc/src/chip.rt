@@ -2,9 +2,11 @@
 ghost use Rattle.std.specs.Prelude.{◌≡◌, ◌<◌, not, ◌&&◌, if◌then◌else◌, None, is_some};
 ghost use Rattle.ranks.specs.Ranks.{above};
 ghost use Rattle.card.specs.Refusals.{answered};
-ghost use Rattle.ctc.specs.Chip.{new_ctc, takes, rank_of, waiting_set, service_set, top_waiting, top_in_service, vector_at, raised, with_taken, with_ended, ctc_reset, clocked_at, ctc_clocked, channel_at, role_of, control_set, written, write_refusal, read_refusal, counter_at, line_changed_at, line_set, line_refusal};
+ghost use Rattle.ctc.specs.Chip.{new_ctc, takes, waiting_set, service_set, top_waiting, top_in_service, vector_at, raised, StepsChannel, port_refusal, with_taken, with_ended, ctc_reset, ctc_clocked, channel_at, role_of, control_set, written, write_refusal, read_refusal, counter_at, line_set, line_refusal};
+ghost use Rattle.std.specs.Fn.{FnOnceReturnsAtMut};
 ghost use Rattle.ctc.specs.Runs.{TimersRequestOnTime, CountersRequestOnTime};
 
+use crate::number::ChannelNumber;
 use card::Refusal;
 use ctc_channel::{Channel, is_control_word};
 use ranks::RankSet;
@@ -15,7 +17,6 @@ pub enum Role {
     Constant,
     ControlWord,
     VectorHead,
-    NotAwaited,
 }
 
 #[derive(Drop)]
@@ -66,13 +67,13 @@ impl Ctc {
     pub(crate) fn waiting_ranks(&self) -> RankSet
         ensures { result ≡ waiting_set self.now }
     {
-        self.waiting.intersection(RankSet::from_bits(15))
+        self.waiting.intersection(RankSet::from(15))
     }
 
     pub(crate) fn service_ranks(&self) -> RankSet
         ensures { result ≡ service_set self.now }
     {
-        self.service.intersection(RankSet::from_bits(15))
+        self.service.intersection(RankSet::from(15))
     }
 
     pub(crate) fn nothing_waits(&self) -> bool
@@ -141,26 +142,25 @@ impl Ctc {
         ensures { self.new ≡ ctc_reset self.old }
     {
         self.vector = 0;
-        self.channels[0].reset();
-        self.channels[1].reset();
-        self.channels[2].reset();
-        self.channels[3].reset();
+        for channel in &mut self.channels {
+            channel.reset();
+        }
         self.waiting = RankSet::empty();
         self.service = RankSet::empty();
     }
 
-    fn raise(&mut self, channel: usize)
-        requires { channel < 4 }
+    fn raise(&mut self, channel: ChannelNumber)
         ensures { self.new ≡ raised channel self.old }
     {
-        self.waiting.insert(rank_of(channel));
+        self.waiting.insert(channel.rank());
     }
 
-    fn clock_channel(&mut self, channel: usize)
-        requires { channel < 4 }
-        ensures { self.new ≡ clocked_at channel self.old }
+    // A step of one channel, which says whether to raise its request.
+    fn step_channel<F: FnOnce(&mut Channel) -> bool>(&mut self, channel: ChannelNumber, step: F)
+        requires { F.IsAlwaysCallable step }
+        ensures { StepsChannel (λ old raises new. FnOnceReturnsAtMut F.FnOnce step old raises new) channel self.old self.new }
     {
-        if self.channels[channel].clock() {
+        if step(&mut self.channels[channel.index()]) {
             self.raise(channel);
         }
     }
@@ -168,34 +168,41 @@ impl Ctc {
     pub(crate) fn clock_all(&mut self)
         ensures { self.new ≡ ctc_clocked self.old }
     {
-        self.clock_channel(0);
-        self.clock_channel(1);
-        self.clock_channel(2);
-        self.clock_channel(3);
-    }
-
-    fn role(&self, channel: usize, byte: u8) -> Role
-        requires { channel < 4 }
-        ensures { result ≡ role_of channel (channel_at channel self.now).awaits byte }
-    {
-        if self.channels[channel].awaits_constant() {
-            Role::Constant
-        } else if is_control_word(byte) {
-            Role::ControlWord
-        } else if channel == 0 {
-            Role::VectorHead
-        } else {
-            Role::NotAwaited
+        for channel in ChannelNumber::all() {
+            self.step_channel(channel, |c| c.clock());
         }
     }
 
-    fn take_control_word(&mut self, channel: usize, word: u8)
-        requires { channel < 4 }
+    fn check_port(&self, port: u8) -> Result<(), Refusal>
+        ensures { result ≡ answered (port_refusal self.now port) tt }
+    {
+        if self.takes_port(port) {
+            Ok(())
+        } else {
+            Err(Refusal::PortNotTaken)
+        }
+    }
+
+    fn role(&self, channel: ChannelNumber, byte: u8) -> Result<Role, Refusal>
+        ensures { result ≡ role_of channel (channel_at channel self.now).awaits byte }
+    {
+        if self.channels[channel.index()].awaits_constant() {
+            Ok(Role::Constant)
+        } else if is_control_word(byte) {
+            Ok(Role::ControlWord)
+        } else if channel.index() == 0 {
+            Ok(Role::VectorHead)
+        } else {
+            Err(Refusal::ByteNotAwaited)
+        }
+    }
+
+    fn take_control_word(&mut self, channel: ChannelNumber, word: u8)
         ensures { self.new ≡ control_set channel word self.old }
     {
-        self.channels[channel].take_control_word(word);
-        if !self.channels[channel].interrupts() {
-            self.waiting.remove(rank_of(channel));
+        self.channels[channel.index()].take_control_word(word);
+        if !self.channels[channel.index()].interrupts() {
+            self.waiting.remove(channel.rank());
         }
     }
 
@@ -203,15 +210,12 @@ impl Ctc {
         ensures answer { result ≡ answered (write_refusal self.old port byte) tt }
         ensures after { self.new ≡ written self.old port byte }
     {
-        if !self.takes_port(port) {
-            return Err(Refusal::PortNotTaken);
-        }
-        let channel = (port % 4) as usize;
-        match self.role(channel, byte) {
-            Role::Constant => self.channels[channel].take_constant(byte),
+        self.check_port(port)?;
+        let channel = ChannelNumber::of_port(port);
+        match self.role(channel, byte)? {
+            Role::Constant => self.channels[channel.index()].take_constant(byte),
             Role::ControlWord => self.take_control_word(channel, byte),
             Role::VectorHead => self.vector = byte,
-            Role::NotAwaited => return Err(Refusal::ByteNotAwaited),
         }
         Ok(())
     }
@@ -219,39 +223,17 @@ impl Ctc {
     pub(crate) fn read_port(&self, port: u8) -> Result<u8, Refusal>
         ensures { result ≡ answered (read_refusal self.now port) (counter_at self.now port) }
     {
-        if !self.takes_port(port) {
-            return Err(Refusal::PortNotTaken);
-        }
-        Ok(self.channels[(port % 4) as usize].counter())
-    }
-
-    fn trigger(&mut self, channel: usize, high: bool)
-        requires { channel < 4 }
-        ensures { self.new ≡ line_changed_at channel high self.old }
-    {
-        if self.channels[channel].change_line(high) {
-            self.raise(channel);
-        }
+        self.check_port(port)?;
+        Ok(self.channels[ChannelNumber::of_port(port).index()].counter())
     }
 
     pub(crate) fn set_line(&mut self, port: u8, line: u8, high: bool) -> Result<(), Refusal>
         ensures answer { result ≡ answered (line_refusal self.old port line) tt }
         ensures after { self.new ≡ line_set self.old port line high }
     {
-        if !self.takes_port(port) {
-            return Err(Refusal::PortNotTaken);
-        }
-        if line > 3 {
-            return Err(Refusal::NoSuchLine);
-        }
-        self.trigger(line as usize, high);
+        self.check_port(port)?;
+        let channel = ChannelNumber::try_from(line)?;
+        self.step_channel(channel, |c| c.change_line(high));
         Ok(())
     }
-}
-
-fn rank_of(channel: usize) -> u8
-    requires { channel < 4 }
-    ensures { result ≡ rank_of channel }
-{
-    3 - channel as u8
 }

@@ -4,5 +4,6 @@
 pub mod bus;
 pub mod chain;
 pub mod chip;
+mod number;
 
 pub use chip::Ctc;
