@@ -2,8 +2,8 @@
 #![tactic(auto)]
 
 #[cfg(test)]
+mod bench;
+#[cfg(test)]
 mod counting;
 #[cfg(test)]
 mod requests;
-#[cfg(test)]
-mod steps;

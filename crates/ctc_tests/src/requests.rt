@@ -1,142 +1,141 @@
 // What a CTC requests, answers and refuses.
-use crate::steps::Step::*;
-use crate::steps::check_all;
+use crate::bench::Bench;
 use card::{Bus, Chain, Refusal};
 use ctc::Ctc;
 use std::process::Abort;
 
 #[test]
 fn services(rt: HostRuntime) {
-    check_all(
-        &rt,
-        &[
-            // channel k adds 2 × k to the vector, whose low three bits are not taken over
-            &[
-                Write(0x10, 0x46),
-                Write(0x13, 0x85),
-                Write(0x13, 1),
-                Clocks(16),
-                Acknowledge(Some(0x46)),
-                Write(0x10, 0xFE),
-                Write(0x12, 0x85),
-                Write(0x12, 1),
-                Clocks(16),
-                Acknowledge(Some(0xFC)),
-            ],
-            // the lower channel outranks the higher: it interrupts its service, and is ended first
-            &[
-                Write(0x13, 0xD5),
-                Write(0x13, 1),
-                Write(0x11, 0xD5),
-                Write(0x11, 1),
-                Line(3, true),
-                Acknowledge(Some(6)),
-                Line(1, true),
-                Int(true),
-                Acknowledge(Some(2)),
-                Line(3, false),
-                Line(3, true),
-                Int(false),
-                Acknowledge(None),
-                Return,
-                Int(false),
-                Return,
-                Int(true),
-                Acknowledge(Some(6)),
-            ],
-            // a request that waits while its own rank is in service is not taken
-            &[
-                Write(0x10, 0xD5),
-                Write(0x10, 1),
-                Line(0, true),
-                Acknowledge(Some(0)),
-                Line(0, false),
-                Line(0, true),
-                Waiting(1),
-                Acknowledge(None),
-                Return,
-                Acknowledge(Some(0)),
-            ],
-            // a control word with bit 7 clear drops a waiting request, but no service
-            &[
-                Write(0x10, 0xD5),
-                Write(0x10, 1),
-                Line(0, true),
-                Waiting(1),
-                Write(0x10, 0x51),
-                Waiting(0),
-                Int(false),
-            ],
-            &[
-                Write(0x10, 0xD5),
-                Write(0x10, 1),
-                Write(0x11, 0xD5),
-                Write(0x11, 1),
-                Line(0, true),
-                Acknowledge(Some(0)),
-                Write(0x10, 0x51),
-                Line(1, true),
-                Int(false),
-                Return,
-                Int(true),
-            ],
-            // a reset drops both
-            &[
-                Write(0x10, 0xD5),
-                Write(0x10, 1),
-                Line(0, true),
-                Acknowledge(Some(0)),
-                Line(0, false),
-                Line(0, true),
-                Reset,
-                Waiting(0),
-                Write(0x13, 0xC5),
-                Write(0x13, 1),
-                Line(3, true),
-                Line(3, false),
-                Int(true),
-            ],
-            // a return without service has no effect
-            &[
-                Return,
-                Write(0x10, 0xD5),
-                Write(0x10, 1),
-                Line(0, true),
-                Return,
-                Acknowledge(Some(0)),
-            ],
-        ],
-    )
+    // channel k adds 2 × k to the vector, whose low three bits are not taken over
+    {
+        let mut bench = Bench::new(&rt);
+        bench.write(0x10, 0x46);
+        bench.write(0x13, 0x85);
+        bench.write(0x13, 1);
+        bench.clocks(16);
+        bench.acknowledge(Some(0x46));
+        bench.write(0x10, 0xFE);
+        bench.write(0x12, 0x85);
+        bench.write(0x12, 1);
+        bench.clocks(16);
+        bench.acknowledge(Some(0xFC));
+    }
+    // the lower channel outranks the higher: it interrupts its service, and is ended first
+    {
+        let mut bench = Bench::new(&rt);
+        bench.write(0x13, 0xD5);
+        bench.write(0x13, 1);
+        bench.write(0x11, 0xD5);
+        bench.write(0x11, 1);
+        bench.line(3, true);
+        bench.acknowledge(Some(6));
+        bench.line(1, true);
+        bench.int(true);
+        bench.acknowledge(Some(2));
+        bench.line(3, false);
+        bench.line(3, true);
+        bench.int(false);
+        bench.acknowledge(None);
+        bench.return_from_interrupt();
+        bench.int(false);
+        bench.return_from_interrupt();
+        bench.int(true);
+        bench.acknowledge(Some(6));
+    }
+    // a request that waits while its own rank is in service is not taken
+    {
+        let mut bench = Bench::new(&rt);
+        bench.write(0x10, 0xD5);
+        bench.write(0x10, 1);
+        bench.line(0, true);
+        bench.acknowledge(Some(0));
+        bench.line(0, false);
+        bench.line(0, true);
+        bench.waiting(1);
+        bench.acknowledge(None);
+        bench.return_from_interrupt();
+        bench.acknowledge(Some(0));
+    }
+    // a control word with bit 7 clear drops a waiting request, but no service
+    {
+        let mut bench = Bench::new(&rt);
+        bench.write(0x10, 0xD5);
+        bench.write(0x10, 1);
+        bench.line(0, true);
+        bench.waiting(1);
+        bench.write(0x10, 0x51);
+        bench.waiting(0);
+        bench.int(false);
+    }
+    {
+        let mut bench = Bench::new(&rt);
+        bench.write(0x10, 0xD5);
+        bench.write(0x10, 1);
+        bench.write(0x11, 0xD5);
+        bench.write(0x11, 1);
+        bench.line(0, true);
+        bench.acknowledge(Some(0));
+        bench.write(0x10, 0x51);
+        bench.line(1, true);
+        bench.int(false);
+        bench.return_from_interrupt();
+        bench.int(true);
+    }
+    // a reset drops both
+    {
+        let mut bench = Bench::new(&rt);
+        bench.write(0x10, 0xD5);
+        bench.write(0x10, 1);
+        bench.line(0, true);
+        bench.acknowledge(Some(0));
+        bench.line(0, false);
+        bench.line(0, true);
+        bench.reset();
+        bench.waiting(0);
+        bench.write(0x13, 0xC5);
+        bench.write(0x13, 1);
+        bench.line(3, true);
+        bench.line(3, false);
+        bench.int(true);
+    }
+    // a return without service has no effect
+    {
+        let mut bench = Bench::new(&rt);
+        bench.return_from_interrupt();
+        bench.write(0x10, 0xD5);
+        bench.write(0x10, 1);
+        bench.line(0, true);
+        bench.return_from_interrupt();
+        bench.acknowledge(Some(0));
+    }
 }
 
 #[test]
 fn refusals(rt: HostRuntime) {
-    check_all(
-        &rt,
-        &[
-            &[
-                WriteRefused(0x0F, 0x85, Refusal::PortNotTaken),
-                WriteRefused(0x14, 0x85, Refusal::PortNotTaken),
-                ReadRefused(0x0F, Refusal::PortNotTaken),
-                ReadRefused(0x14, Refusal::PortNotTaken),
-                LineRefused(0x14, 0, Refusal::PortNotTaken),
-                LineRefused(0x14, 4, Refusal::PortNotTaken),
-            ],
-            &[
-                LineRefused(0x13, 4, Refusal::NoSuchLine),
-                LineRefused(0x10, 255, Refusal::NoSuchLine),
-            ],
-            &[
-                Write(0x10, 0x80),
-                WriteRefused(0x11, 0x80, Refusal::ByteNotAwaited),
-                WriteRefused(0x12, 0, Refusal::ByteNotAwaited),
-                WriteRefused(0x13, 0xFE, Refusal::ByteNotAwaited),
-                Write(0x13, 0x85),
-                Write(0x13, 0xFE),
-                Read(0x13, 0xFE),
-            ],
-        ],
-    )
+    {
+        let mut bench = Bench::new(&rt);
+        bench.write_refused(0x0F, 0x85, Refusal::PortNotTaken);
+        bench.write_refused(0x14, 0x85, Refusal::PortNotTaken);
+        bench.read_refused(0x0F, Refusal::PortNotTaken);
+        bench.read_refused(0x14, Refusal::PortNotTaken);
+        bench.line_refused(0x14, 0, Refusal::PortNotTaken);
+        bench.line_refused(0x14, 4, Refusal::PortNotTaken);
+    }
+    {
+        let mut bench = Bench::new(&rt);
+        bench.line_refused(0x13, 4, Refusal::NoSuchLine);
+        bench.line_refused(0x10, 255, Refusal::NoSuchLine);
+    }
+    {
+        let mut bench = Bench::new(&rt);
+        bench.write(0x10, 0x80);
+        bench.write_refused(0x11, 0x80, Refusal::ByteNotAwaited);
+        bench.write_refused(0x12, 0, Refusal::ByteNotAwaited);
+        bench.write_refused(0x13, 0xFE, Refusal::ByteNotAwaited);
+        bench.write(0x13, 0x85);
+        bench.write(0x13, 0xFE);
+        bench.read(0x13, 0xFE);
+    }
 }
 
 #[test]
@@ -151,7 +150,7 @@ fn numbers_of_refusals(rt: HostRuntime) {
         (Refusal::TooFewPlaces, 7),
     ];
     for (refusal, number) in cases {
-        assert_eq!(rt; refusal.number(), number);
+        assert_eq!(rt; u8::from(refusal), number);
     }
 }
 
