@@ -1,13 +1,13 @@
 -- Laws of meanings that the proofs of cards share.
-use Rattle.std.proofs.Common.{◌≡◌, ℕ, ◌<◌, Bool, true, false, cond, ◌&&◌, Some, None, Option, is_some, refl, arith}
-use Rattle.std.proofs.lemmas.Bool.{cond-false, true≢false}
+use Rattle.std.proofs.Common.{◌≡◌, ℕ, ◌<◌, Bool, true, false, cond, ◌&&◌, Some, None, Option, is_some, refl}
+use Rattle.std.proofs.lemmas.Bool.{cond-false}
 use Rattle.ranks.proofs.Sets.{highest_in}
 use Rattle.card.specs.Meaning.{Meaning, highest_waiting, highest_in_service, serves, pulls, rank_acknowledged, rank_returned}
 use Rattle.card.specs.Sentences.{KeptOnTheBus}
 
 some_of : {A : Type 0} (t : Bool) (o : Option A) (x : A) → Some x ≡ cond t o None → Some x ≡ o
 some_of true o x e = e
-some_of false o x e = let n : ◌≡◌ {A = ℕ} 0 1 = cc in absurd (omega arith)
+some_of false o x e = cc
 
 -- an acknowledge takes a rank that waits
 pub acknowledged_waits : (iei : Bool) (m : Meaning) (r : ℕ) → Some r ≡ rank_acknowledged iei m → (r < m.size) × (m.waiting r ≡ true)
@@ -24,7 +24,7 @@ no_service_ends_none true m e = none_of (highest_in_service m) e
   where
     none_of : (o : Option ℕ) → is_some o ≡ false → o ≡ None
     none_of None h = refl
-    none_of (Some r) h = absurd (true≢false h)
+    none_of (Some r) h = cc
 no_service_ends_none false m e = refl
 
 -- a call that leaves the meaning

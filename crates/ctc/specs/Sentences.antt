@@ -1,7 +1,7 @@
 -- A CTC shows every sentence on cards.
 use Rattle.std.specs.Prelude.{◌≡◌, ℕ, ◌<◌, Bool, true, false, cond, not, Some, None, Ok, Err, Option, Result, ◌==◌, nat_lt, refl}
 use Rattle.std.proofs.Common.{arith, sym, ◌∙◌, ap, ap₂}
-use Rattle.std.proofs.lemmas.Bool.{lt-ltb, false≢true}
+use Rattle.std.proofs.lemmas.Bool.{lt-ltb, cond_both}
 use Rattle.ranks.specs.RankSets.{ranks, intersected}
 use Rattle.ranks.proofs.Sets.{from_the_top_length}
 use Rattle.ranks.proofs.RankSets.{ranks_none, removed_from_both, inserted_in_both}
@@ -46,10 +46,6 @@ keeps c d p s =
       service = λ r h. ap (λ x. ranks (intersected x four_ranks) r) s ∙ h;
     }
 
-keeps_either_way : (t : Bool) (c d e : Ctc) → Keeps c d → Keeps c e → Keeps c (cond t d e)
-keeps_either_way true c d e p q = p
-keeps_either_way false c d e p q = q
-
 written_keeps : (role : Result Role Refusal) (k b : ℕ) (c : Ctc) → Keeps c (written_if_any role k b c)
 written_keeps (Ok Constant) k b c = keeps c _ refl refl
 written_keeps (Ok ControlWord) k b c = keeps c _ refl refl
@@ -69,7 +65,7 @@ off_port false w h = refl
 refused_role_stays : (role : Result Role Refusal) (k b : ℕ) (c : Ctc) → is_refused (refused_if_none role) ≡ true → c ≡ written_if_any role k b c
 unfolding is_refused
 refused_role_stays (Err why) k b c h = refl
-refused_role_stays (Ok role) k b c h = absurd (false≢true h)
+refused_role_stays (Ok role) k b c h = cc
 
 role_not_by_1 : (k b : ℕ) (awaits : Bool) → refused_by_1 (refused_if_none (role_of k awaits b)) ≡ false
 unfolding refused_by_1
@@ -84,7 +80,7 @@ role_not_by_1 k b false = at (is_control_word b) (k == 0)
 refused_line_stays : (t : Bool) (c d : Ctc) → is_refused (cond t (Some NoSuchLine) None) ≡ true → c ≡ cond t c d
 unfolding is_refused
 refused_line_stays true c d h = refl
-refused_line_stays false c d h = absurd (false≢true h)
+refused_line_stays false c d h = cc
 
 line_not_by_1 : (t : Bool) → refused_by_1 (cond t (Some NoSuchLine) None) ≡ false
 unfolding refused_by_1
@@ -114,11 +110,13 @@ ctc_sentences =
       return_ends_the_highest = λ c iei. ended_means c (rank_returned iei (ctc_meaning c));
       return_without_service_alters_nothing = λ c iei e. ap (λ o. ended_if_any o c) (sym (no_service_ends_none iei (ctc_meaning c) e));
       reset_empties = λ c. record { size = refl; ports = refl; waiting = ranks_none; service = ranks_none };
-      write_keeps = λ c p b. keeps_either_way (takes c p) c _ c (written_keeps (role_in c p b) (channel_of p) b c) (nothing_moved (ctc_meaning c));
+      write_keeps = λ c p b. cond_both (takes c p) _ c (Keeps c) (λ e. written_keeps (role_in c p b) (channel_of p) b c) (λ e. nothing_moved (ctc_meaning c));
       read_keeps = λ c p. nothing_moved (ctc_meaning c);
       clock_keeps = λ c. keeps c _ refl refl;
       line_keeps = λ c p l high.
-          keeps_either_way (takes c p) c _ c (keeps_either_way (nat_lt 3 l) c c _ (nothing_moved (ctc_meaning c)) (keeps c (line_changed_at l high c) refl refl)) (nothing_moved (ctc_meaning c));
+          cond_both (takes c p) _ c (Keeps c)
+          (λ e. cond_both (nat_lt 3 l) c _ (Keeps c) (λ g. nothing_moved (ctc_meaning c)) (λ g. keeps c (line_changed_at l high c) refl refl))
+          (λ e. nothing_moved (ctc_meaning c));
       refused_write_alters_nothing = λ c p b. refused_stays (takes c p) (refused_if_none (role_in c p b)) c _ (refused_role_stays (role_in c p b) (channel_of p) b c);
       refused_read_alters_nothing = λ c p h. refl;
       refused_line_alters_nothing = λ c p l high. refused_stays (takes c p) (cond (nat_lt 3 l) (Some NoSuchLine) None) c _ (refused_line_stays (nat_lt 3 l) c (line_changed_at l high c));
