@@ -37,12 +37,6 @@ impl Ctc {
         ensures timers_request_on_time { TimersRequestOnTime }
         ensures counters_request_on_time { CountersRequestOnTime }
     {
-        Ctc::made_for(port)
-    }
-
-    fn made_for(port: u8) -> Ctc
-        ensures { result ≡ new_ctc port }
-    {
         Ctc {
             port,
             vector: 0,
