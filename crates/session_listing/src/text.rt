@@ -52,8 +52,5 @@ fn list_calls(text: &mut String, calls: Calls<'_>) -> Result<(), AllocError>
 fn add_line(text: &mut String, line: CallLine) -> Result<(), AllocError>
     ensures { OnOk result (string_bytes text.new ≡ string_bytes text.old ++ ended (call_line line.offset line.call)) }
 {
-    match writeln!(text, "{line}") {
-        Ok(()) => Ok(()),
-        Err(_) => Err(AllocError),
-    }
+    writeln!(text, "{line}")
 }
