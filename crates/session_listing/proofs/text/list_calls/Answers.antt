@@ -8,7 +8,7 @@ loop-call-preserved c =
     let now = calls_left c.loop-call.call-iterator in
     let later = calls_left c.next.new.self in
     let steps = c.in-Some.ensures.steps in (
-      lines_more (string_bytes c.loop-call.text) (string_bytes c.add_line.new.text) c.loop-call.offset now later c.in-Some.call steps.0 steps.1 c.in_ok-add_line.ensures
+      lines_more (string_bytes c.loop-call.text) (string_bytes c.writeln.new.self) c.loop-call.offset now later c.in-Some.call steps.0 steps.1 c.in_ok-writeln.ensures.bytes
           ∙ c.loop-call.invariant.0,
       offset_more c.loop-call.offset now later c.in-Some.call steps.0 steps.1 c.loop-call.invariant.1,
     )
