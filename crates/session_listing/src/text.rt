@@ -41,11 +41,10 @@ fn list_calls(text: &mut String, calls: Calls<'_>) -> Result<(), AllocError>
     requires { length (calls_left calls) ≤ 4096 }
     ensures { OnOk result (string_bytes text.new ≡ string_bytes text.old ++ call_lines 2 (calls_left calls.entry)) }
 {
-    let mut offset = 2;
-    for call in calls {
+    for (place, call) in calls.enumerate() {
+        let offset = 2 + 3 * place as u16;
         let line = CallLine { offset, call };
         writeln!(text, "{line}")?;
-        offset += 3;
     }
     Ok(())
 }
