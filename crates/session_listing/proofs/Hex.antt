@@ -1,19 +1,17 @@
 -- What a hole `{n:02X}` or `{n:04X}` writes is the digits of the definitions.
-use Rattle.std.proofs.Common.{◌≡◌, ℕ, suc, ◌-◌, ◌/◌, ◌%◌, ◌^◌, ◌≤◌, ◌<◌, true, false, cond, List, [], ◌∷◌, Some, sym, ap, ◌∙◌, arith, eq-eqb, ne_eqb, inl, inr}
+use Rattle.std.proofs.Common.{◌≡◌, ℕ, suc, ◌-◌, ◌/◌, ◌%◌, ◌^◌, ◌≤◌, ◌<◌, true, false, List, [], ◌∷◌, Some, sym, ap, ◌∙◌, arith, eq-eqb, ne_eqb, inl, inr}
 use Rattle.std.proofs.lemmas.Bool.{cases_lt}
 use Rattle.std.proofs.lemmas.Fmt as library
 use Rattle.std.specs.Fmt.{char_count, digits, digits_onto, digits_output, format_spec, padded_integral, styled_digits_output}
 use Rattle.session_listing.specs.Hex.{hex_digit, hex_byte, hex_word}
 
--- ---- the digits of numbers with three digits and with four
+-- ---- the digits of numbers that have three and four of them
 
 digit_more : (k n : ℕ) (after : List ℕ) → 16 ≤ n → digits_onto (suc k) 16 true n after ≡ digits_onto k 16 true (n / 16) (hex_digit (n % 16) ∷ after)
-digit_more k n after h =
-    ap (λ b. cond b (hex_digit (n % 16) ∷ after) (digits_onto k 16 true (n / 16) (hex_digit (n % 16) ∷ after))) (ne_eqb (n / 16) 0 (λ e. omega arith))
+digit_more k n after h = rw (ne_eqb (n / 16) 0 (λ e. omega arith))
 
 digit_last : (k n : ℕ) (after : List ℕ) → n < 16 → digits_onto (suc k) 16 true n after ≡ hex_digit (n % 16) ∷ after
-digit_last k n after h =
-    ap (λ b. cond b (hex_digit (n % 16) ∷ after) (digits_onto k 16 true (n / 16) (hex_digit (n % 16) ∷ after))) (eq-eqb (n / 16) 0 (omega arith))
+digit_last k n after h = rw (eq-eqb (n / 16) 0 (omega arith))
 
 three_digits : (n : ℕ) → 256 ≤ n → n < 4096 → digits 16 true n ≡ hex_digit (n / 16 / 16 % 16) ∷ hex_digit (n / 16 % 16) ∷ hex_digit (n % 16) ∷ []
 unfolding digits
@@ -24,6 +22,8 @@ four_digits : (n : ℕ) → 4096 ≤ n → n < 65536
 unfolding digits
 four_digits n large small =
     digit_more 63 n _ (omega arith) ∙ digit_more 62 (n / 16) _ (omega arith) ∙ digit_more 61 (n / 16 / 16) _ (omega arith) ∙ digit_last 60 (n / 16 / 16 / 16) _ (omega arith)
+
+-- ---- what stands with its leading zeros
 
 word_of : (n a b c d : ℕ) → n / 256 / 16 ≡ a → n / 256 % 16 ≡ b → n % 256 / 16 ≡ c → n % 256 % 16 ≡ d
     → hex_digit a ∷ hex_digit b ∷ hex_digit c ∷ hex_digit d ∷ [] ≡ hex_word n
@@ -43,7 +43,7 @@ word_text n small =
       ]
     ]
 
--- ---- holes
+-- ---- a hole that a `write!` fills with n
 
 pub byte_shown : (d : _) (s : _) (n : ℕ) → digits_output d ≡ Some (digits 16 true n) → s ≡ format_spec 32 0 4 2 (2 ^ 64 - 1) → n < 256
     → styled_digits_output d s ≡ Some (hex_byte n)

@@ -22,7 +22,7 @@ unfolding call_lines
 lines_more text more count place next calls later call taken here on grown =
     let offset : 2 + 3 * next ≡ 2 + 3 * place + 3 = omega arith in
     let same : 2 + 3 * count ≡ 2 + 3 * place = omega arith in
-    rw (taken, grown, offset, same, append_assoc)
+    rw (taken, grown, offset, same) (append_assoc text (ended (call_line (2 + 3 * place) call)) (call_lines (2 + 3 * place + 3) later))
 
 pub lines_none : (text : List ℕ) (count : ℕ) (calls : List Call) → calls ≡ [] → text ++ call_lines (2 + 3 * count) calls ≡ text
 unfolding call_lines

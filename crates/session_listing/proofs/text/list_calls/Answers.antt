@@ -5,8 +5,11 @@ use Rattle.session_listing.proofs.text.list_calls.Goals as goal
 pub loop-place-preserved : goal.loop-place-preserved
 loop-place-preserved c =
     let steps = c.in-Some.ensures.steps in
-    let taken = stood_first _ _ _ steps.0.0 steps.0.1 in
-    (lines_more _ _ _ _ _ _ _ _ taken steps.1 steps.2 c.in_ok-writeln.ensures.bytes ∙ c.loop-place.invariant.0, omega (arith, ap length taken))
+    let first = stood_first _ _ _ steps.0.0 steps.0.1 in
+    record {
+      lines = lines_more _ _ _ _ _ _ _ _ first steps.1 steps.2 c.in_ok-writeln.ensures.bytes ∙ c.loop-place.invariant.lines;
+      few = omega (arith, ap length first);
+    }
 
 pub returns : goal.returns
-returns c = sym (lines_none _ _ _ (none_stood _ c.in-None.ensures.steps.0.0)) ∙ c.loop-place.invariant.0
+returns c = sym (lines_none _ _ _ (none_stood _ c.in-None.ensures.steps.0.0)) ∙ c.loop-place.invariant.lines

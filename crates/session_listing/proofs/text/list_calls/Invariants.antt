@@ -8,5 +8,7 @@ abbrev pub invariant-loop-place : goal.invariant-loop-place
 invariant-loop-place l =
     let left = calls_left (enumerate_source l.place-iterator) in
     let place = enumerate_count l.place-iterator in
-    (string_bytes l.text ++ call_lines (2 + 3 * place) left ≡ string_bytes l.initial.text ++ call_lines 2 (calls_left l.calls))
-    × (place + length left ≤ 4096)
+    record {
+      lines : string_bytes l.text ++ call_lines (2 + 3 * place) left ≡ string_bytes l.initial.text ++ call_lines 2 (calls_left l.calls);
+      few : place + length left ≤ 4096;
+    }
