@@ -10,10 +10,6 @@ pub stood_first : (calls later : List Call) (call : Call) → Some call ≡ next
 stood_first [] later call next after = cc
 stood_first (c ∷ calls) later call next after = cc
 
-pub none_stood : (calls : List Call) → None ≡ next_call calls → calls ≡ []
-none_stood [] next = cc
-none_stood (c ∷ calls) next = cc
-
 -- the text with the next call's line, and the lines of the later calls
 pub lines_more : (text more : List ℕ) (count place next : ℕ) (calls later : List Call) (call : Call)
     → calls ≡ call ∷ later → place ≡ count → next ≡ count + 1 → more ≡ text ++ ended (call_line (2 + 3 * place) call)
@@ -24,6 +20,7 @@ lines_more text more count place next calls later call taken here on grown =
     let same : 2 + 3 * count ≡ 2 + 3 * place = omega arith in
     rw (taken, grown, offset, same) (append_assoc text (ended (call_line (2 + 3 * place) call)) (call_lines (2 + 3 * place + 3) later))
 
-pub lines_none : (text : List ℕ) (count : ℕ) (calls : List Call) → calls ≡ [] → text ++ call_lines (2 + 3 * count) calls ≡ text
+pub lines_none : (text : List ℕ) (count : ℕ) (calls : List Call) → None ≡ next_call calls → text ++ call_lines (2 + 3 * count) calls ≡ text
 unfolding call_lines
-lines_none text count calls none = rw none (append-nil text)
+lines_none text count [] next = append-nil text
+lines_none text count (c ∷ calls) next = cc

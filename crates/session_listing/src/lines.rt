@@ -14,10 +14,9 @@ impl fmt::Display for Operation {
 
     fn fmt<W: fmt::Write>(&self, f: &mut fmt::Formatter<W>) -> fmt::Result {
         match self.0 {
-            Call::Write { port, byte } => write!(
-                f,
-                "write        port {port:02X}h, byte {byte:02X}h"
-            ),
+            Call::Write { port, byte } => {
+                write!(f, "write        port {port:02X}h, byte {byte:02X}h")
+            }
             Call::Read { port } => write!(f, "read         port {port:02X}h"),
             Call::Line { port, line, high } => {
                 let level = level_name(high);

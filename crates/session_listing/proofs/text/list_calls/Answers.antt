@@ -1,5 +1,5 @@
 use Rattle.std.proofs.Common.{length, ap, sym, ◌∙◌, arith}
-use Rattle.session_listing.proofs.Steps.{stood_first, none_stood, lines_more, lines_none}
+use Rattle.session_listing.proofs.Steps.{stood_first, lines_more, lines_none}
 use Rattle.session_listing.proofs.text.list_calls.Goals as goal
 
 pub loop-place-preserved : goal.loop-place-preserved
@@ -12,4 +12,4 @@ loop-place-preserved c =
     }
 
 pub returns : goal.returns
-returns c = sym (lines_none _ _ _ (none_stood _ c.in-None.ensures.steps.0.0)) ∙ c.loop-place.invariant.lines
+returns c = sym (lines_none _ _ _ c.in-None.ensures.steps.0.0) ∙ c.loop-place.invariant.lines
