@@ -1,7 +1,6 @@
 // The listing of a session for a person: one line for the count and one for each call, or the refusal.
 #![tactic(auto)]
 
-mod hex;
 mod lines;
 mod text;
 

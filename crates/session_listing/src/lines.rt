@@ -1,8 +1,7 @@
 // The lines of a listing.
-ghost use Rattle.std.specs.Prelude.{Some};
+ghost use Rattle.std.specs.Prelude.{◌≡◌, Some};
 ghost use Rattle.session_listing.specs.Lines.{operation, level, call_line, count_line, refusal_line};
 
-use crate::hex::{HexByte, HexWord};
 use session_format::{Call, FormatRefusal};
 use std::fmt;
 
@@ -16,45 +15,26 @@ impl fmt::Display for Operation {
     fn fmt<W: fmt::Write>(&self, f: &mut fmt::Formatter<W>) -> fmt::Result {
         match self.0 {
             Call::Write { port, byte } => {
-                let port = HexByte(port);
-                let byte = HexByte(byte);
-                write!(f, "write        port {port}h, byte {byte}h")
+                write!(f, "write        port {port:02X}h, byte {byte:02X}h")
             }
-            Call::Read { port } => {
-                let port = HexByte(port);
-                write!(f, "read         port {port}h")
-            }
+            Call::Read { port } => write!(f, "read         port {port:02X}h"),
             Call::Line { port, line, high } => {
-                let port = HexByte(port);
-                let level = Level(high);
-                write!(f, "line         port {port}h, line {line} {level}")
+                let level = level_name(high);
+                write!(f, "line         port {port:02X}h, line {line} {level}")
             }
             Call::Clocks { number } => write!(f, "clocks       {number}"),
             Call::Acknowledge => write!(f, "acknowledge"),
-            Call::Fetch { byte } => {
-                let byte = HexByte(byte);
-                write!(f, "fetch        byte {byte}h")
-            }
+            Call::Fetch { byte } => write!(f, "fetch        byte {byte:02X}h"),
             Call::AskInt => write!(f, "int"),
             Call::Reset => write!(f, "reset"),
         }
     }
 }
 
-// A line's level.
-#[derive(Clone, Copy)]
-struct Level(bool);
-
-impl fmt::Display for Level {
-    ghost output = { λ x. Some (level x.0) };
-
-    fn fmt<W: fmt::Write>(&self, f: &mut fmt::Formatter<W>) -> fmt::Result {
-        if self.0 {
-            write!(f, "high")
-        } else {
-            write!(f, "low")
-        }
-    }
+fn level_name(high: bool) -> &'static str
+    ensures { result.now ≡ level high }
+{
+    if high { "high" } else { "low" }
 }
 
 // A call, where it stands in the session, and its three bytes.
@@ -68,13 +48,13 @@ impl fmt::Display for CallLine {
     ghost output = { λ x. Some (call_line x.offset x.call) };
 
     fn fmt<W: fmt::Write>(&self, f: &mut fmt::Formatter<W>) -> fmt::Result {
-        let offset = HexWord(self.offset);
-        let bytes = self.call.encode();
-        let letter = HexByte(bytes[0]);
-        let first = HexByte(bytes[1]);
-        let second = HexByte(bytes[2]);
+        let offset = self.offset;
+        let [letter, first, second] = self.call.encode();
         let operation = Operation(self.call);
-        write!(f, "{offset}  {letter} {first} {second}  {operation}")
+        write!(
+            f,
+            "{offset:04X}  {letter:02X} {first:02X} {second:02X}  {operation}"
+        )
     }
 }
 
@@ -87,9 +67,8 @@ impl fmt::Display for CountLine {
 
     fn fmt<W: fmt::Write>(&self, f: &mut fmt::Formatter<W>) -> fmt::Result {
         let count = self.0;
-        let low = HexByte((count % 256) as u8);
-        let high = HexByte((count / 256) as u8);
-        write!(f, "0000  {low} {high}     count        {count}")
+        let [low, high] = count.to_le_bytes();
+        write!(f, "0000  {low:02X} {high:02X}     count        {count}")
     }
 }
 

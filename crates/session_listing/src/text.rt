@@ -3,7 +3,7 @@ ghost use Rattle.std.specs.Prelude.{◌≡◌, ◌≤◌, ◌++◌, length, IfOk
 ghost use Rattle.session_format.specs.Views.{calls_left};
 ghost use Rattle.session_listing.specs.Listing.{call_lines, listed_calls, listing_of, ended};
 ghost use Rattle.session_listing.specs.Laws.{LineFeedEach};
-ghost use Rattle.session_listing.specs.Lines.{call_line, refusal_line};
+ghost use Rattle.session_listing.specs.Lines.{refusal_line};
 
 use crate::lines::{CallLine, CountLine, RefusalLine};
 use session_format::{Calls, FormatRefusal, read_session};
@@ -41,19 +41,10 @@ fn list_calls(text: &mut String, calls: Calls<'_>) -> Result<(), AllocError>
     requires { length (calls_left calls) ≤ 4096 }
     ensures { OnOk result (string_bytes text.new ≡ string_bytes text.old ++ call_lines 2 (calls_left calls.entry)) }
 {
-    let mut offset = 2;
-    for call in calls {
-        add_line(text, CallLine { offset, call })?;
-        offset += 3;
+    for (place, call) in calls.enumerate() {
+        let offset = 2 + 3 * place as u16;
+        let line = CallLine { offset, call };
+        writeln!(text, "{line}")?;
     }
     Ok(())
-}
-
-fn add_line(text: &mut String, line: CallLine) -> Result<(), AllocError>
-    ensures { OnOk result (string_bytes text.new ≡ string_bytes text.old ++ ended (call_line line.offset line.call)) }
-{
-    match writeln!(text, "{line}") {
-        Ok(()) => Ok(()),
-        Err(_) => Err(AllocError),
-    }
 }

@@ -8,10 +8,6 @@ use std::io::Read;
 const READ_AT_MOST: u64 = 12_291;
 
 fn main(rt: HostRuntime) -> anyhow::Result<()> {
-    run(&rt)
-}
-
-fn run(rt: &HostRuntime) -> anyhow::Result<()> {
     let heap = rt.alloc();
     let mut bytes = Vec::new(heap);
     rt.stdin().take(READ_AT_MOST).read_to_end(&mut bytes)?;

@@ -1,19 +1,15 @@
-use Rattle.std.proofs.Common.{string_bytes, sym, ◌∙◌}
-use Rattle.session_format.specs.Views.{calls_left}
-use Rattle.session_listing.proofs.Steps.{lines_more, offset_more, lines_none}
+use Rattle.std.proofs.Common.{length, ap, sym, ◌∙◌, arith}
+use Rattle.session_listing.proofs.Steps.{stood_first, lines_more, lines_none}
 use Rattle.session_listing.proofs.text.list_calls.Goals as goal
 
-pub loop-call-preserved : goal.loop-call-preserved
-loop-call-preserved c =
-    let now = calls_left c.loop-call.call-iterator in
-    let later = calls_left c.next.new.self in
-    let steps = c.in-Some.ensures.steps in (
-      lines_more (string_bytes c.loop-call.text) (string_bytes c.add_line.new.text) c.loop-call.offset now later c.in-Some.call steps.0 steps.1 c.in_ok-add_line.ensures
-          ∙ c.loop-call.invariant.0,
-      offset_more c.loop-call.offset now later c.in-Some.call steps.0 steps.1 c.loop-call.invariant.1,
-    )
+pub loop-place-preserved : goal.loop-place-preserved
+loop-place-preserved c =
+    let steps = c.in-Some.ensures.steps in
+    let first = stood_first _ _ _ steps.0.0 steps.0.1 in
+    record {
+      lines = lines_more _ _ _ _ _ _ _ _ first steps.1 steps.2 c.in_ok-writeln.ensures.bytes ∙ c.loop-place.invariant.lines;
+      few = omega (arith, ap length first);
+    }
 
 pub returns : goal.returns
-returns c =
-    sym (lines_none (string_bytes c.loop-call.text) c.loop-call.offset (calls_left c.loop-call.call-iterator) c.in-None.ensures.steps.0)
-    ∙ c.loop-call.invariant.0
+returns c = sym (lines_none _ _ _ c.in-None.ensures.steps.0.0) ∙ c.loop-place.invariant.lines
