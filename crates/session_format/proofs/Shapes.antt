@@ -1,11 +1,12 @@
 -- A session's bytes by their places, as a slice pattern takes them apart.
-use Rattle.std.proofs.Common.{◌≡◌, ℕ, ◌+◌, ◌-◌, ◌*◌, ◌<◌, ◌≤◌, ◌&&◌, List, [], ◌∷◌, length, get_or, take, drop, is_ok, Ok, Err, Result, sym, refl, ap, ◌∙◌, subst, arith, ne_eqb}
+use Rattle.std.proofs.Common.{◌≡◌, ℕ, ◌+◌, ◌-◌, ◌*◌, ◌<◌, ◌≤◌, true, ◌&&◌, List, [], ◌∷◌, length, get_or, take, drop, is_ok, Some, None, Ok, Err, Result, sym, refl, ap, ◌∙◌, arith, ne_eqb}
+use Rattle.std.specs.Result.{result_ok}
 use Rattle.std.proofs.lemmas.List.{take_rest}
 use Rattle.session_format.specs.declared.encoding.Call.{Call}
 use Rattle.session_format.specs.declared.refusals.FormatRefusal.{FormatRefusal}
 use Rattle.session_format.specs.declared.refusals.FormatRefusal.TheVariants.{EndsInsideCount}
 use Rattle.session_format.specs.Encoding.{call_of}
-use Rattle.session_format.specs.Views.{Begins, BeginsNone}
+use Rattle.session_format.specs.Splits.{Begins, BeginsNone}
 use Rattle.session_format.specs.Reading.{well_formed, calls_in, followed_by, counted, session_of}
 
 -- the bytes after the first n, as a slice pattern's rest has them
@@ -37,24 +38,22 @@ begins_with letter first second rest call e = record {
 abbrev pub first_call : List ℕ → Result Call FormatRefusal
 first_call bytes = call_of (get_or bytes 0 0) (get_or bytes 1 0) (get_or bytes 2 0)
 
-pub begins_at : (bytes : List ℕ) (call : Call) → 3 ≤ length bytes → first_call bytes ≡ Ok call
+pub begins_at : (bytes : List ℕ) (r : Result Call FormatRefusal) (call : Call) → 3 ≤ length bytes → r ≡ first_call bytes → result_ok r ≡ Some call
     → Begins bytes call (after 3 bytes)
-begins_at [] call h e = absurd (omega arith)
-begins_at (letter ∷ []) call h e = absurd (omega arith)
-begins_at (letter ∷ first ∷ []) call h e = absurd (omega arith)
-begins_at (letter ∷ first ∷ second ∷ rest) call h e =
-    subst (Begins (letter ∷ first ∷ second ∷ rest) call) (sym (take_rest (letter ∷ first ∷ second ∷ rest) 3)) (begins_with letter first second rest call e)
+begins_at (letter ∷ first ∷ second ∷ rest) (Ok it) call long e some =
+    rw take_rest (begins_with letter first second rest call (cc))
+begins_at (letter ∷ first ∷ second ∷ rest) (Err why) call long e some = cc
+begins_at _ r call long e some = absurd (omega arith)
 
-pub begins_malformed : (bytes : List ℕ) (why : FormatRefusal) → 3 ≤ length bytes → first_call bytes ≡ Err why
+pub begins_malformed : (bytes : List ℕ) (r : Result Call FormatRefusal) → 3 ≤ length bytes → r ≡ first_call bytes → result_ok r ≡ None
     → BeginsNone bytes
 unfolding well_formed calls_in
-begins_malformed [] why h e = absurd (omega arith)
-begins_malformed (letter ∷ []) why h e = absurd (omega arith)
-begins_malformed (letter ∷ first ∷ []) why h e = absurd (omega arith)
-begins_malformed (letter ∷ first ∷ second ∷ rest) why h e = record {
-  calls = ap (λ r. followed_by r (calls_in rest)) e;
-  formed = ap (λ r. is_ok r && well_formed rest) e ∙ sym (ne_eqb (length (letter ∷ first ∷ second ∷ rest)) 0 (λ z. omega arith));
+begins_malformed (letter ∷ first ∷ second ∷ rest) (Ok call) long e none = cc
+begins_malformed (letter ∷ first ∷ second ∷ rest) (Err why) long e none = record {
+  calls = sym (ap (λ r. followed_by r (calls_in rest)) e);
+  formed = sym (ap (λ r. is_ok r && well_formed rest) e) ∙ sym (ne_eqb (length (letter ∷ first ∷ second ∷ rest)) 0 (λ z. omega arith));
 }
+begins_malformed _ r long e none = absurd (omega arith)
 
 pub begins_short : (bytes : List ℕ) → length bytes < 3 → BeginsNone bytes
 unfolding well_formed calls_in
@@ -62,3 +61,16 @@ begins_short [] h = record { calls = refl; formed = refl }
 begins_short (letter ∷ []) h = record { calls = refl; formed = refl }
 begins_short (letter ∷ first ∷ []) h = record { calls = refl; formed = refl }
 begins_short (letter ∷ first ∷ second ∷ rest) h = absurd (omega arith)
+
+length_more : (r : Result Call FormatRefusal) (rest : List ℕ) → (is_ok r && well_formed rest) ≡ true
+    → (well_formed rest ≡ true → 3 * length (calls_in rest) ≡ length rest) → 3 * length (followed_by r (calls_in rest)) ≡ 3 + length rest
+length_more (Ok call) rest formed more = omega (arith, more formed)
+length_more (Err why) rest formed more = cc
+
+-- well-formed bytes hold a call in every three
+pub length_formed : (bytes : List ℕ) → well_formed bytes ≡ true → 3 * length (calls_in bytes) ≡ length bytes
+unfolding well_formed calls_in
+length_formed [] formed = refl
+length_formed (letter ∷ []) formed = cc
+length_formed (letter ∷ first ∷ []) formed = cc
+length_formed (letter ∷ first ∷ second ∷ rest) formed = length_more (call_of letter first second) rest formed (length_formed rest) ∙ omega arith

@@ -6,7 +6,7 @@ use Rattle.session_format.proofs.Shapes.{begins_with}
 use Rattle.session_format.specs.Encoding.{ascii, call_of, call_bytes, well_formed_if, line_operand, bits_6_to_4}
 use Rattle.session_format.specs.Laws.{HoldsCall, ReadsWhatIsWritten}
 use Rattle.session_format.specs.Reading.{most_calls, counted, well_formed, calls_in}
-use Rattle.session_format.specs.Views.{Begins}
+use Rattle.session_format.specs.Splits.{Begins}
 use Rattle.session_format.specs.Writing.{bytes_of_calls}
 use Rattle.session_format.specs.declared.encoding.Call.{Call}
 use Rattle.session_format.specs.declared.encoding.Call.TheVariants.{Write, Read, Line, Clocks, Acknowledge, Fetch, AskInt, Reset}
