@@ -1,6 +1,6 @@
 // A view of the caller's bytes as the calls that they hold.
-ghost use Rattle.std.specs.Prelude.{◌≡◌, ◌*◌, ◌≤◌, true, length};
-ghost use Rattle.session_format.specs.Reading.{most_calls, well_formed};
+ghost use Rattle.std.specs.Prelude.{◌≡◌, ◌≤◌, true, length};
+ghost use Rattle.session_format.specs.Reading.{most_calls, calls_in, well_formed};
 ghost use Rattle.session_format.specs.Splits.{Splits};
 
 use crate::encoding::Call;
@@ -10,7 +10,7 @@ use crate::encoding::Call;
 pub struct Calls<'a> {
     pub(crate) bytes: &'a [u8],
     pub ghost formed: { well_formed bytes.now ≡ true },
-    pub ghost few: { length bytes.now ≤ 3 * most_calls },
+    pub ghost few: { length (calls_in bytes.now) ≤ most_calls },
 }
 
 impl Iterator for Calls<'_> {
