@@ -1,11 +1,11 @@
 -- A session's bytes by their places, as a slice pattern takes them apart.
-use Rattle.std.proofs.Common.{◌≡◌, ℕ, ◌+◌, ◌-◌, ◌*◌, ◌<◌, ◌≤◌, true, ◌&&◌, List, [], ◌∷◌, length, get_or, take, drop, is_ok, Some, None, Ok, Err, Result, sym, refl, ap, ◌∙◌, arith, ne_eqb}
+use Rattle.std.proofs.Common.{◌≡◌, ℕ, ◌+◌, ◌-◌, ◌*◌, ◌<◌, ◌≤◌, true, ◌&&◌, List, [], ◌∷◌, ◌++◌, length, get_or, take, drop, is_ok, Some, None, Ok, Err, Result, sym, refl, ap, ◌∙◌, arith, ne_eqb}
 use Rattle.std.specs.Result.{result_ok}
 use Rattle.std.proofs.lemmas.List.{take_rest}
 use Rattle.session_format.specs.declared.encoding.Call.{Call}
 use Rattle.session_format.specs.declared.refusals.FormatRefusal.{FormatRefusal}
 use Rattle.session_format.specs.declared.refusals.FormatRefusal.TheVariants.{EndsInsideCount}
-use Rattle.session_format.specs.Encoding.{call_of}
+use Rattle.session_format.specs.Encoding.{call_of, call_of_bytes}
 use Rattle.session_format.specs.Splits.{Begins, BeginsNone}
 use Rattle.session_format.specs.Reading.{well_formed, calls_in, followed_by, counted, session_of}
 
@@ -13,26 +13,18 @@ use Rattle.session_format.specs.Reading.{well_formed, calls_in, followed_by, cou
 abbrev pub after : ℕ → List ℕ → List ℕ
 after n bytes = take (length bytes - n) (drop n bytes)
 
-pub session_by_places : (bytes : List ℕ) → 2 ≤ length bytes
-    → session_of bytes ≡ counted (get_or bytes 0 0 + 256 * get_or bytes 1 0) (after 2 bytes)
-session_by_places [] h = absurd (omega arith)
-session_by_places (low ∷ []) h = absurd (omega arith)
-session_by_places (low ∷ high ∷ rest) h = ap (counted (low + 256 * high)) (sym (take_rest (low ∷ high ∷ rest) 2))
-
-pub session_short : (bytes : List ℕ) → length bytes < 2 → session_of bytes ≡ Err EndsInsideCount
-session_short [] h = refl
-session_short (low ∷ []) h = refl
-session_short (low ∷ high ∷ rest) h = absurd (omega arith)
-
-pub begins_with : (letter first second : ℕ) (rest : List ℕ) (call : Call) → call_of letter first second ≡ Ok call
-    → Begins (letter ∷ first ∷ second ∷ rest) call rest
+pub begins_with : (bytes rest : List ℕ) (call : Call) → call_of_bytes bytes ≡ Ok call → Begins (bytes ++ rest) call rest
 unfolding well_formed calls_in
-begins_with letter first second rest call e = record {
+begins_with (letter ∷ first ∷ second ∷ []) rest call e = record {
   calls = ap (λ r. followed_by r (calls_in rest)) e;
   formed = ap (λ r. is_ok r && well_formed rest) e;
   follows = refl;
   shorter = omega arith;
 }
+begins_with [] rest call e = cc
+begins_with (letter ∷ []) rest call e = cc
+begins_with (letter ∷ first ∷ []) rest call e = cc
+begins_with (letter ∷ first ∷ second ∷ third ∷ more) rest call e = cc
 
 -- what the first three bytes say
 abbrev pub first_call : List ℕ → Result Call FormatRefusal
@@ -41,7 +33,7 @@ first_call bytes = call_of (get_or bytes 0 0) (get_or bytes 1 0) (get_or bytes 2
 pub begins_at : (bytes : List ℕ) (r : Result Call FormatRefusal) (call : Call) → 3 ≤ length bytes → r ≡ first_call bytes → result_ok r ≡ Some call
     → Begins bytes call (after 3 bytes)
 begins_at (letter ∷ first ∷ second ∷ rest) (Ok it) call long e some =
-    rw take_rest (begins_with letter first second rest call (cc))
+    rw take_rest (begins_with (letter ∷ first ∷ second ∷ []) rest call (cc))
 begins_at (letter ∷ first ∷ second ∷ rest) (Err why) call long e some = cc
 begins_at _ r call long e some = absurd (omega arith)
 
