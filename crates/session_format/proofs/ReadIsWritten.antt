@@ -1,13 +1,13 @@
 -- Writing what was read gives the bytes, and what was read can be written.
-use Rattle.std.proofs.Common.{◌≡◌, ℕ, ◌+◌, ◌*◌, ◌/◌, ◌%◌, ◌<◌, ◌≤◌, true, ◌&&◌, List, [], ◌∷◌, length, get_or, All, is_ok, IfOk, Ok, Err, Result, sym, refl, ap, ◌∙◌, arith, w8, Fits}
+use Rattle.std.proofs.Common.{◌≡◌, ℕ, ◌+◌, ◌*◌, ◌/◌, ◌%◌, ◌<◌, true, ◌&&◌, List, [], ◌∷◌, length, get_or, All, is_ok, IfOk, Ok, Err, Result, sym, refl, ap, ◌∙◌, arith, w8, Fits}
 use Rattle.std.proofs.lemmas.Bool.Decides.{nat_tests}
 use Rattle.std.proofs.lemmas.List.Elements.{All-nil, All-cons, All-head, All-tail, All-from_get_or}
 use Rattle.session_format.proofs.Shapes.{length_formed}
 use Rattle.session_format.specs.Encoding.{call_of, call_bytes}
 use Rattle.session_format.specs.Laws.{HoldsCall, Holdable, WritesWhatWasRead}
-use Rattle.session_format.specs.Reading.{most_calls, session_of, counted, well_formed, calls_in, followed_by}
+use Rattle.session_format.specs.Reading.{counted, well_formed, calls_in, followed_by}
 use Rattle.session_format.specs.Views.{calls_left}
-use Rattle.session_format.specs.Writing.{bytes_of_calls, session_bytes}
+use Rattle.session_format.specs.Writing.{bytes_of_calls}
 use Rattle.session_format.specs.declared.encoding.Call.{Call}
 use Rattle.session_format.specs.declared.refusals.FormatRefusal.{FormatRefusal}
 use Rattle.session_format.specs.declared.view.Calls.{Calls}

@@ -1,13 +1,13 @@
--- A session's bytes by their places, as a slice pattern takes them apart.
-use Rattle.std.proofs.Common.{◌≡◌, ℕ, ◌+◌, ◌-◌, ◌*◌, ◌<◌, ◌≤◌, true, ◌&&◌, List, [], ◌∷◌, ◌++◌, length, get_or, take, drop, is_ok, Some, None, Ok, Err, Result, sym, refl, ap, ◌∙◌, arith, ne_eqb}
+-- What bytes begin with, as a slice pattern takes them apart, and how many calls they hold.
+use Rattle.std.proofs.Common.{◌≡◌, ℕ, ◌+◌, ◌-◌, ◌*◌, ◌<◌, ◌≤◌, true, ◌&&◌, List, [], ◌∷◌, ◌++◌, length, get_or, take, drop, is_ok, Some, None, Ok, Err, Result, refl, ap, ◌∙◌, arith}
 use Rattle.std.specs.Result.{result_ok}
+use Rattle.std.proofs.lemmas.Bool.Decides.{nat_tests}
 use Rattle.std.proofs.lemmas.List.{take_rest}
 use Rattle.session_format.specs.declared.encoding.Call.{Call}
 use Rattle.session_format.specs.declared.refusals.FormatRefusal.{FormatRefusal}
-use Rattle.session_format.specs.declared.refusals.FormatRefusal.TheVariants.{EndsInsideCount}
 use Rattle.session_format.specs.Encoding.{call_of, call_of_bytes}
 use Rattle.session_format.specs.Splits.{Begins, BeginsNone}
-use Rattle.session_format.specs.Reading.{well_formed, calls_in, followed_by, counted, session_of}
+use Rattle.session_format.specs.Reading.{well_formed, calls_in, followed_by}
 
 -- the bytes after the first n, as a slice pattern's rest has them
 abbrev pub after : ℕ → List ℕ → List ℕ
@@ -41,18 +41,15 @@ pub begins_malformed : (bytes : List ℕ) (r : Result Call FormatRefusal) → 3 
     → BeginsNone bytes
 unfolding well_formed calls_in
 begins_malformed (letter ∷ first ∷ second ∷ rest) (Ok call) long e none = cc
-begins_malformed (letter ∷ first ∷ second ∷ rest) (Err why) long e none = record {
-  calls = sym (ap (λ r. followed_by r (calls_in rest)) e);
-  formed = sym (ap (λ r. is_ok r && well_formed rest) e) ∙ sym (ne_eqb (length (letter ∷ first ∷ second ∷ rest)) 0 (λ z. omega arith));
-}
+begins_malformed (letter ∷ first ∷ second ∷ rest) (Err why) long e none = record { calls = grind (arith, nat_tests); formed = grind (arith, nat_tests) }
 begins_malformed _ r long e none = absurd (omega arith)
 
 pub begins_short : (bytes : List ℕ) → length bytes < 3 → BeginsNone bytes
 unfolding well_formed calls_in
-begins_short [] h = record { calls = refl; formed = refl }
-begins_short (letter ∷ []) h = record { calls = refl; formed = refl }
-begins_short (letter ∷ first ∷ []) h = record { calls = refl; formed = refl }
-begins_short (letter ∷ first ∷ second ∷ rest) h = absurd (omega arith)
+begins_short [] short = record { calls = refl; formed = refl }
+begins_short (letter ∷ []) short = record { calls = refl; formed = refl }
+begins_short (letter ∷ first ∷ []) short = record { calls = refl; formed = refl }
+begins_short _ short = absurd (omega arith)
 
 length_more : (r : Result Call FormatRefusal) (rest : List ℕ) → (is_ok r && well_formed rest) ≡ true
     → (well_formed rest ≡ true → 3 * length (calls_in rest) ≡ length rest) → 3 * length (followed_by r (calls_in rest)) ≡ 3 + length rest
