@@ -28,6 +28,11 @@ impl Iterator for Calls<'_> {
         self.bytes = rest;
         Some(call)
     }
+
+    fn size_hint(&self) -> (usize, Option<usize>) {
+        let left = self.len();
+        (left, Some(left))
+    }
 }
 
 impl ExactSizeIterator for Calls<'_> {
