@@ -5,7 +5,7 @@ ghost use Rattle.session_format.specs.Splits.{Splits};
 
 use crate::encoding::Call;
 
-// The calls that are still to come, in order.
+// The calls that are still to come, in order: whole, well-formed calls, and no more than a session holds.
 #[derive(Drop)]
 pub struct Calls<'a> {
     pub(crate) bytes: &'a [u8],
