@@ -1,5 +1,5 @@
 -- The values that the code passes on while it reads, in the terms of `Reading`.
-use Rattle.std.specs.Prelude.{List, [], ◌∷◌, Some, None, Ok, Err, Option, Result}
+use Rattle.std.specs.Prelude.{List, Ok, Err, Result}
 use Rattle.session_format.specs.Reading.{calls_in}
 use Rattle.session_format.specs.declared.encoding.Call.{Call}
 use Rattle.session_format.specs.declared.refusals.FormatRefusal.{FormatRefusal}
@@ -13,12 +13,3 @@ calls_left view = calls_in view.bytes.now
 abbrev pub answer : Result Calls FormatRefusal → Result (List Call) FormatRefusal
 answer (Ok view) = Ok (calls_left view)
 answer (Err e) = Err e
-
--- the first of a list of calls, and the list after it
-abbrev pub next_call : List Call → Option Call
-next_call [] = None
-next_call (call ∷ calls) = Some call
-
-abbrev pub later_calls : List Call → List Call
-later_calls [] = []
-later_calls (call ∷ calls) = calls

@@ -14,14 +14,14 @@ pub struct Calls<'a> {
 }
 
 impl Iterator for Calls<'_> {
-    ghost use Rattle.std.specs.Iterator.{at_most};
-    ghost use Rattle.session_format.specs.Views.{calls_left, next_call, later_calls};
+    ghost use Rattle.std.specs.Iterator.{YieldsFirst, item_count};
+    ghost use Rattle.session_format.specs.Views.{calls_left};
 
     type Item = Call;
 
-    ghost next_gives = { λ s r t. (r ≡ next_call (calls_left s)) × (calls_left t ≡ later_calls (calls_left s)) };
+    ghost next_gives = { YieldsFirst calls_left };
 
-    ghost remaining = { λ s. at_most (length (calls_left s)) };
+    ghost remaining = { item_count calls_left };
 
     fn next(&mut self) -> Option<Call> {
         let (call, rest) = split_first(self.bytes)?;
