@@ -69,7 +69,7 @@ impl fmt::Display for CallLine {
 
     fn fmt<W: fmt::Write>(&self, f: &mut fmt::Formatter<W>) -> fmt::Result {
         let offset = HexWord(self.offset);
-        let bytes = self.call.encode();
+        let bytes = <[u8; 3]>::from(self.call);
         let letter = HexByte(bytes[0]);
         let first = HexByte(bytes[1]);
         let second = HexByte(bytes[2]);
@@ -101,7 +101,7 @@ impl fmt::Display for RefusalLine {
     ghost output = { λ x. Some (refusal_line x.0) };
 
     fn fmt<W: fmt::Write>(&self, f: &mut fmt::Formatter<W>) -> fmt::Result {
-        let number = self.0.number();
+        let number = u8::from(self.0);
         let reason = self.0;
         write!(f, "refused {number}: {reason}")
     }
