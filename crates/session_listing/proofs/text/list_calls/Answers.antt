@@ -1,16 +1,14 @@
-use Rattle.std.proofs.Common.{string_bytes, sym, ◌∙◌}
+use Rattle.std.proofs.Common.{string_bytes, sym, ◌∙◌, arith, ap, length}
 use Rattle.session_format.specs.Views.{calls_left}
-use Rattle.session_listing.proofs.Steps.{lines_more, offset_more, lines_none}
+use Rattle.session_listing.proofs.Steps.{lines_more, lines_none}
 use Rattle.session_listing.proofs.text.list_calls.Goals as goal
 
 pub loop-call-preserved : goal.loop-call-preserved
 loop-call-preserved c =
-    let now = calls_left c.loop-call.call-iterator in
-    let later = calls_left c.next.new.self in
     let steps = c.in-Some.ensures.steps in (
-      lines_more (string_bytes c.loop-call.text) (string_bytes c.add_line.new.text) c.loop-call.offset now later c.in-Some.call steps.0 steps.1 c.in_ok-add_line.ensures
+      lines_more (string_bytes c.loop-call.text) (string_bytes c.add_line.new.text) c.loop-call.offset (calls_left c.loop-call.call-iterator) (calls_left c.next.new.self) c.in-Some.call steps c.in_ok-add_line.ensures
           ∙ c.loop-call.invariant.0,
-      offset_more c.loop-call.offset now later c.in-Some.call steps.0 steps.1 c.loop-call.invariant.1,
+      omega (arith, ap length steps),
     )
 
 pub returns : goal.returns
