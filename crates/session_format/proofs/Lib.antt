@@ -2,4 +2,3 @@ pub mod Shapes
 pub mod WrittenIsRead
 pub mod ReadIsWritten
 pub mod Fronts
-pub mod Shown

@@ -1,64 +1,65 @@
--- A session's bytes by their places, as a slice pattern takes them apart.
-use Rattle.std.proofs.Common.{◌≡◌, ℕ, ◌+◌, ◌-◌, ◌*◌, ◌<◌, ◌≤◌, ◌&&◌, List, [], ◌∷◌, length, get_or, take, drop, is_ok, Ok, Err, Result, sym, refl, ap, ◌∙◌, subst, arith, ne_eqb}
+-- What bytes begin with, as a slice pattern takes them apart, and how many calls they hold.
+use Rattle.std.proofs.Common.{◌≡◌, ℕ, ◌+◌, ◌-◌, ◌*◌, ◌<◌, ◌≤◌, true, ◌&&◌, List, [], ◌∷◌, ◌++◌, length, get_or, take, drop, is_ok, Some, None, Ok, Err, Result, refl, ap, ◌∙◌, arith}
+use Rattle.std.specs.Result.{result_ok}
+use Rattle.std.proofs.lemmas.Bool.Decides.{nat_tests}
 use Rattle.std.proofs.lemmas.List.{take_rest}
 use Rattle.session_format.specs.declared.encoding.Call.{Call}
 use Rattle.session_format.specs.declared.refusals.FormatRefusal.{FormatRefusal}
-use Rattle.session_format.specs.declared.refusals.FormatRefusal.TheVariants.{EndsInsideCount}
-use Rattle.session_format.specs.Encoding.{call_of}
-use Rattle.session_format.specs.Views.{Begins, BeginsNone}
-use Rattle.session_format.specs.Reading.{well_formed, calls_in, followed_by, counted, session_of}
+use Rattle.session_format.specs.Encoding.{call_of, call_of_bytes}
+use Rattle.session_format.specs.Splits.{Begins, BeginsNone}
+use Rattle.session_format.specs.Reading.{well_formed, calls_in, followed_by}
 
 -- the bytes after the first n, as a slice pattern's rest has them
 abbrev pub after : ℕ → List ℕ → List ℕ
 after n bytes = take (length bytes - n) (drop n bytes)
 
-pub session_by_places : (bytes : List ℕ) → 2 ≤ length bytes
-    → session_of bytes ≡ counted (get_or bytes 0 0 + 256 * get_or bytes 1 0) (after 2 bytes)
-session_by_places [] h = absurd (omega arith)
-session_by_places (low ∷ []) h = absurd (omega arith)
-session_by_places (low ∷ high ∷ rest) h = ap (counted (low + 256 * high)) (sym (take_rest (low ∷ high ∷ rest) 2))
-
-pub session_short : (bytes : List ℕ) → length bytes < 2 → session_of bytes ≡ Err EndsInsideCount
-session_short [] h = refl
-session_short (low ∷ []) h = refl
-session_short (low ∷ high ∷ rest) h = absurd (omega arith)
-
-pub begins_with : (letter first second : ℕ) (rest : List ℕ) (call : Call) → call_of letter first second ≡ Ok call
-    → Begins (letter ∷ first ∷ second ∷ rest) call rest
+pub begins_with : (bytes rest : List ℕ) (call : Call) → call_of_bytes bytes ≡ Ok call → Begins (bytes ++ rest) call rest
 unfolding well_formed calls_in
-begins_with letter first second rest call e = record {
+begins_with (letter ∷ first ∷ second ∷ []) rest call e = record {
   calls = ap (λ r. followed_by r (calls_in rest)) e;
   formed = ap (λ r. is_ok r && well_formed rest) e;
   follows = refl;
   shorter = omega arith;
 }
+begins_with [] rest call e = cc
+begins_with (letter ∷ []) rest call e = cc
+begins_with (letter ∷ first ∷ []) rest call e = cc
+begins_with (letter ∷ first ∷ second ∷ third ∷ more) rest call e = cc
 
 -- what the first three bytes say
 abbrev pub first_call : List ℕ → Result Call FormatRefusal
 first_call bytes = call_of (get_or bytes 0 0) (get_or bytes 1 0) (get_or bytes 2 0)
 
-pub begins_at : (bytes : List ℕ) (call : Call) → 3 ≤ length bytes → first_call bytes ≡ Ok call
+pub begins_at : (bytes : List ℕ) (r : Result Call FormatRefusal) (call : Call) → 3 ≤ length bytes → r ≡ first_call bytes → result_ok r ≡ Some call
     → Begins bytes call (after 3 bytes)
-begins_at [] call h e = absurd (omega arith)
-begins_at (letter ∷ []) call h e = absurd (omega arith)
-begins_at (letter ∷ first ∷ []) call h e = absurd (omega arith)
-begins_at (letter ∷ first ∷ second ∷ rest) call h e =
-    subst (Begins (letter ∷ first ∷ second ∷ rest) call) (sym (take_rest (letter ∷ first ∷ second ∷ rest) 3)) (begins_with letter first second rest call e)
+begins_at (letter ∷ first ∷ second ∷ rest) (Ok it) call long e some =
+    rw take_rest (begins_with (letter ∷ first ∷ second ∷ []) rest call (cc))
+begins_at (letter ∷ first ∷ second ∷ rest) (Err why) call long e some = cc
+begins_at _ r call long e some = absurd (omega arith)
 
-pub begins_malformed : (bytes : List ℕ) (why : FormatRefusal) → 3 ≤ length bytes → first_call bytes ≡ Err why
+pub begins_malformed : (bytes : List ℕ) (r : Result Call FormatRefusal) → 3 ≤ length bytes → r ≡ first_call bytes → result_ok r ≡ None
     → BeginsNone bytes
 unfolding well_formed calls_in
-begins_malformed [] why h e = absurd (omega arith)
-begins_malformed (letter ∷ []) why h e = absurd (omega arith)
-begins_malformed (letter ∷ first ∷ []) why h e = absurd (omega arith)
-begins_malformed (letter ∷ first ∷ second ∷ rest) why h e = record {
-  calls = ap (λ r. followed_by r (calls_in rest)) e;
-  formed = ap (λ r. is_ok r && well_formed rest) e ∙ sym (ne_eqb (length (letter ∷ first ∷ second ∷ rest)) 0 (λ z. omega arith));
-}
+begins_malformed (letter ∷ first ∷ second ∷ rest) (Ok call) long e none = cc
+begins_malformed (letter ∷ first ∷ second ∷ rest) (Err why) long e none = record { calls = grind (arith, nat_tests); formed = grind (arith, nat_tests) }
+begins_malformed _ r long e none = absurd (omega arith)
 
 pub begins_short : (bytes : List ℕ) → length bytes < 3 → BeginsNone bytes
 unfolding well_formed calls_in
-begins_short [] h = record { calls = refl; formed = refl }
-begins_short (letter ∷ []) h = record { calls = refl; formed = refl }
-begins_short (letter ∷ first ∷ []) h = record { calls = refl; formed = refl }
-begins_short (letter ∷ first ∷ second ∷ rest) h = absurd (omega arith)
+begins_short [] short = record { calls = refl; formed = refl }
+begins_short (letter ∷ []) short = record { calls = refl; formed = refl }
+begins_short (letter ∷ first ∷ []) short = record { calls = refl; formed = refl }
+begins_short _ short = absurd (omega arith)
+
+length_more : (r : Result Call FormatRefusal) (rest : List ℕ) → (is_ok r && well_formed rest) ≡ true
+    → (well_formed rest ≡ true → 3 * length (calls_in rest) ≡ length rest) → 3 * length (followed_by r (calls_in rest)) ≡ 3 + length rest
+length_more (Ok call) rest formed more = omega (arith, more formed)
+length_more (Err why) rest formed more = cc
+
+-- well-formed bytes hold a call in every three
+pub length_formed : (bytes : List ℕ) → well_formed bytes ≡ true → 3 * length (calls_in bytes) ≡ length bytes
+unfolding well_formed calls_in
+length_formed [] formed = refl
+length_formed (letter ∷ []) formed = cc
+length_formed (letter ∷ first ∷ []) formed = cc
+length_formed (letter ∷ first ∷ second ∷ rest) formed = length_more (call_of letter first second) rest formed (length_formed rest) ∙ omega arith

@@ -45,6 +45,11 @@ call_of letter first second =
     (cond (letter == ascii "Z") (well_formed_if (is_unused first && is_unused second) Reset)
     (Err MalformedCall))))))))
 
+-- what three bytes say, a letter and two operands
+abbrev pub call_of_bytes : List ℕ → Result Call FormatRefusal
+call_of_bytes (letter ∷ first ∷ second ∷ []) = call_of letter first second
+call_of_bytes _ = Err MalformedCall
+
 -- the three bytes of a call
 abbrev pub call_bytes : Call → List ℕ
 call_bytes (Write port byte) = ascii "W" ∷ port ∷ byte ∷ []

@@ -3,4 +3,5 @@ pub mod Encoding
 pub mod Reading
 pub mod Writing
 pub mod Laws
+pub mod Splits
 pub mod Views

@@ -1,6 +1,6 @@
 // One call of a session, and the three bytes that stand for it.
 ghost use Rattle.std.specs.Prelude.{◌≡◌};
-ghost use Rattle.session_format.specs.Encoding.{call_of, call_bytes, line_operand};
+ghost use Rattle.session_format.specs.Encoding.{call_of_bytes, call_bytes, line_operand};
 
 use crate::refusals::FormatRefusal;
 
@@ -18,33 +18,37 @@ pub enum Call {
     Reset,
 }
 
-impl Call {
-    // The call that a letter and two operands say.
-    pub fn decode(letter: u8, first: u8, second: u8) -> Result<Call, FormatRefusal>
-        ensures { result ≡ call_of letter first second }
-    {
-        match (letter, first, second) {
-            (b'W', port, byte) => Ok(Call::Write { port, byte }),
-            (b'R', port, 0) => Ok(Call::Read { port }),
-            (b'L', port, operand) if operand / 16 % 8 == 0 => Ok(Call::Line {
+// The call that a letter and two operands say.
+impl TryFrom<[u8; 3]> for Call {
+    type Error = FormatRefusal;
+
+    ghost try_from_gives = { λ bytes r. r ≡ call_of_bytes bytes };
+
+    fn try_from(bytes: [u8; 3]) -> Result<Self, FormatRefusal> {
+        match bytes {
+            [b'W', port, byte] => Ok(Call::Write { port, byte }),
+            [b'R', port, 0] => Ok(Call::Read { port }),
+            [b'L', port, operand] if operand / 16 % 8 == 0 => Ok(Call::Line {
                 port,
                 line: operand % 16,
                 high: operand >= 128,
             }),
-            (b'C', number, 0) => Ok(Call::Clocks { number }),
-            (b'A', 0, 0) => Ok(Call::Acknowledge),
-            (b'F', byte, 0) => Ok(Call::Fetch { byte }),
-            (b'I', 0, 0) => Ok(Call::AskInt),
-            (b'Z', 0, 0) => Ok(Call::Reset),
+            [b'C', number, 0] => Ok(Call::Clocks { number }),
+            [b'A', 0, 0] => Ok(Call::Acknowledge),
+            [b'F', byte, 0] => Ok(Call::Fetch { byte }),
+            [b'I', 0, 0] => Ok(Call::AskInt),
+            [b'Z', 0, 0] => Ok(Call::Reset),
             _ => Err(FormatRefusal::MalformedCall),
         }
     }
+}
 
-    // The letter and the two operands of the call. Of a line's number the format holds the low four bits.
-    pub fn encode(self) -> [u8; 3]
-        ensures { result ≡ call_bytes self }
-    {
-        match self {
+// The letter and the two operands of the call. Of a line's number the format holds the low four bits.
+impl From<Call> for [u8; 3] {
+    ghost from_gives = { λ call bytes. bytes ≡ call_bytes call };
+
+    fn from(call: Call) -> Self {
+        match call {
             Call::Write { port, byte } => [b'W', port, byte],
             Call::Read { port } => [b'R', port, 0],
             Call::Line { port, line, high } => [b'L', port, encode_line(line, high)],

@@ -36,7 +36,7 @@ fn read_calls(count: u16, bytes: &[u8]) -> Result<Calls<'_>, FormatRefusal>
     if count > MOST_CALLS {
         return Err(FormatRefusal::TooManyCalls);
     }
-    let length = 3 * count as usize;
+    let length = 3 * usize::from(count);
     if bytes.len() < length {
         return Err(FormatRefusal::EndsInsideCall);
     }

@@ -14,12 +14,12 @@ pub enum FormatRefusal {
     MalformedCall,
 }
 
-impl FormatRefusal {
-    // The number of the refusal in docs/SESSIONS.md.
-    pub fn number(self) -> u8
-        ensures { result ≡ number_of self }
-    {
-        match self {
+// The number of the refusal in docs/SESSIONS.md.
+impl From<FormatRefusal> for u8 {
+    ghost from_gives = { λ refusal n. n ≡ number_of refusal };
+
+    fn from(refusal: FormatRefusal) -> Self {
+        match refusal {
             FormatRefusal::EndsInsideCount => 8,
             FormatRefusal::TooManyCalls => 9,
             FormatRefusal::EndsInsideCall => 8,

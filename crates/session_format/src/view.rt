@@ -1,50 +1,49 @@
 // A view of the caller's bytes as the calls that they hold.
-ghost use Rattle.std.specs.Prelude.{◌≡◌, length};
-ghost use Rattle.session_format.specs.Reading.{calls_in};
-ghost use Rattle.session_format.specs.Views.{calls_left, next_call, later_calls, Splits};
-ghost use Rattle.std.specs.Iterator.{at_most};
+ghost use Rattle.std.specs.Prelude.{◌≡◌, ◌≤◌, true, length};
+ghost use Rattle.session_format.specs.Reading.{most_calls, calls_in, well_formed};
+ghost use Rattle.session_format.specs.Splits.{Splits};
 
 use crate::encoding::Call;
 
-// The calls that are still to come, in order.
+// The calls that are still to come, in order: whole, well-formed calls, and no more than a session holds.
 #[derive(Drop)]
 pub struct Calls<'a> {
     pub(crate) bytes: &'a [u8],
-}
-
-impl Calls<'_> {
-    // How many calls are still to come.
-    pub fn len(&self) -> usize
-        ensures { result ≡ length (calls_left self.now) }
-    {
-        count_calls(self.bytes)
-    }
+    pub ghost formed: { well_formed bytes.now ≡ true },
+    pub ghost few: { length (calls_in bytes.now) ≤ most_calls },
 }
 
 impl Iterator for Calls<'_> {
+    ghost use Rattle.std.specs.Iterator.{YieldsFirst, item_count};
+    ghost use Rattle.session_format.specs.Views.{calls_left};
+
     type Item = Call;
 
-    ghost next_gives = { λ s r t. (r ≡ next_call (calls_left s)) × (calls_left t ≡ later_calls (calls_left s)) };
+    ghost next_gives = { YieldsFirst calls_left };
 
-    ghost remaining = { λ s. at_most (length (calls_left s)) };
+    ghost remaining = { item_count calls_left };
 
     fn next(&mut self) -> Option<Call> {
         let (call, rest) = split_first(self.bytes)?;
         self.bytes = rest;
         Some(call)
     }
+
+    fn size_hint(&self) -> (usize, Option<usize>) {
+        let left = self.len();
+        (left, Some(left))
+    }
 }
 
-fn count_calls(bytes: &[u8]) -> usize
-    ensures { result ≡ length (calls_in bytes.now) }
-{
-    let mut left = bytes;
-    let mut count = 0;
-    while let Some((_, rest)) = split_first(left) {
-        left = rest;
-        count += 1;
+impl ExactSizeIterator for Calls<'_> {
+    ghost use Rattle.session_format.specs.Views.{calls_left};
+
+    // How many calls are still to come.
+    fn len(&self) -> usize
+        ensures { result ≡ length (calls_left self.now) }
+    {
+        self.bytes.len() / 3
     }
-    count
 }
 
 // The call that the bytes begin with, and the bytes after it; none where they end or the call is malformed.
@@ -54,8 +53,6 @@ pub(crate) fn split_first(bytes: &[u8]) -> Option<(Call, &[u8])>
     let [letter, first, second, rest @ ..] = bytes else {
         return None;
     };
-    match Call::decode(*letter, *first, *second) {
-        Ok(call) => Some((call, rest)),
-        Err(_) => None,
-    }
+    let call = Call::try_from([*letter, *first, *second]).ok()?;
+    Some((call, rest))
 }

@@ -1,14 +1,8 @@
 -- A listing that grows call by call.
-use Rattle.std.proofs.Common.{◌≡◌, ℕ, ◌+◌, ◌*◌, List, [], ◌∷◌, ◌++◌, Some, None, append_assoc, append-nil, arith}
-use Rattle.session_format.specs.Views.{next_call, later_calls}
+use Rattle.std.proofs.Common.{◌≡◌, ℕ, ◌+◌, ◌*◌, List, [], ◌∷◌, ◌++◌, append_assoc, append-nil, arith}
 use Rattle.session_format.specs.declared.encoding.Call.{Call}
 use Rattle.session_listing.specs.Lines.{call_line}
 use Rattle.session_listing.specs.Listing.{call_lines, ended}
-
--- a call that came from the list stood before the later ones
-pub stood_first : (calls later : List Call) (call : Call) → Some call ≡ next_call calls → later ≡ later_calls calls → calls ≡ call ∷ later
-stood_first [] later call next after = cc
-stood_first (c ∷ calls) later call next after = cc
 
 -- the text with the next call's line, and the lines of the later calls
 pub lines_more : (text more : List ℕ) (count place next : ℕ) (calls later : List Call) (call : Call)
@@ -20,7 +14,6 @@ lines_more text more count place next calls later call taken here on grown =
     let same : 2 + 3 * count ≡ 2 + 3 * place = omega arith in
     rw (taken, grown, offset, same) (append_assoc text (ended (call_line (2 + 3 * place) call)) (call_lines (2 + 3 * place + 3) later))
 
-pub lines_none : (text : List ℕ) (count : ℕ) (calls : List Call) → None ≡ next_call calls → text ++ call_lines (2 + 3 * count) calls ≡ text
+pub lines_none : (text : List ℕ) (offset : ℕ) (calls : List Call) → calls ≡ [] → text ++ call_lines offset calls ≡ text
 unfolding call_lines
-lines_none text count [] next = append-nil text
-lines_none text count (c ∷ calls) next = cc
+lines_none text offset calls none = rw none (append-nil text)

@@ -49,7 +49,7 @@ impl fmt::Display for CallLine {
 
     fn fmt<W: fmt::Write>(&self, f: &mut fmt::Formatter<W>) -> fmt::Result {
         let offset = self.offset;
-        let [letter, first, second] = self.call.encode();
+        let [letter, first, second] = <[u8; 3]>::from(self.call);
         let operation = Operation(self.call);
         write!(
             f,
@@ -80,7 +80,7 @@ impl fmt::Display for RefusalLine {
     ghost output = { λ x. Some (refusal_line x.0) };
 
     fn fmt<W: fmt::Write>(&self, f: &mut fmt::Formatter<W>) -> fmt::Result {
-        let number = self.0.number();
+        let number = u8::from(self.0);
         let reason = self.0;
         write!(f, "refused {number}: {reason}")
     }

@@ -28,7 +28,6 @@ fn list_refusal(heap: Global, refusal: FormatRefusal) -> Result<String, AllocErr
 }
 
 fn list_session(heap: Global, calls: Calls<'_>) -> Result<String, AllocError>
-    requires { length (calls_left calls) ≤ 4096 }
     ensures { IfOk result (λ text. string_bytes text ≡ listed_calls (calls_left calls.entry)) }
 {
     let count = CountLine(calls.len() as u16);
@@ -38,7 +37,6 @@ fn list_session(heap: Global, calls: Calls<'_>) -> Result<String, AllocError>
 }
 
 fn list_calls(text: &mut String, calls: Calls<'_>) -> Result<(), AllocError>
-    requires { length (calls_left calls) ≤ 4096 }
     ensures { OnOk result (string_bytes text.new ≡ string_bytes text.old ++ call_lines 2 (calls_left calls.entry)) }
 {
     for (place, call) in calls.enumerate() {

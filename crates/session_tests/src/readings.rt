@@ -17,10 +17,7 @@ const BYTES_LEFT_OVER: Option<FormatRefusal> = Some(FormatRefusal::BytesLeftOver
 const MALFORMED_CALL: Option<FormatRefusal> = Some(FormatRefusal::MalformedCall);
 
 fn refusal_of(bytes: &[u8]) -> Option<FormatRefusal> {
-    match read_session(bytes) {
-        Ok(_) => None,
-        Err(refusal) => Some(refusal),
-    }
+    read_session(bytes).err()
 }
 
 fn check_all(rt: &impl Abort, cases: &[(&[u8], Option<FormatRefusal>)]) {

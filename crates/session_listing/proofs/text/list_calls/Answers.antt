@@ -1,14 +1,13 @@
 use Rattle.std.proofs.Common.{length, ap, sym, ◌∙◌, arith}
-use Rattle.session_listing.proofs.Steps.{stood_first, lines_more, lines_none}
+use Rattle.session_listing.proofs.Steps.{lines_more, lines_none}
 use Rattle.session_listing.proofs.text.list_calls.Goals as goal
 
 pub loop-place-preserved : goal.loop-place-preserved
 loop-place-preserved c =
     let steps = c.in-Some.ensures.steps in
-    let first = stood_first _ _ _ steps.0.0 steps.0.1 in
     record {
-      lines = lines_more _ _ _ _ _ _ _ _ first steps.1 steps.2 c.in_ok-writeln.ensures.bytes ∙ c.loop-place.invariant.lines;
-      few = omega (arith, ap length first);
+      lines = lines_more _ _ _ _ _ _ _ _ steps.0 steps.1 steps.2 c.in_ok-writeln.ensures.bytes ∙ c.loop-place.invariant.lines;
+      few = omega (arith, ap length steps.0);
     }
 
 pub returns : goal.returns

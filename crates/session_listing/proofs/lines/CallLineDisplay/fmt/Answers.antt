@@ -9,5 +9,5 @@ returns-clause-writes g c =
       byte_shown _ _ _ c.in_radix-2.ensures c.laid_out-2.ensures (search rules),
       byte_shown _ _ _ c.in_radix-3.ensures c.laid_out-3.ensures (search rules),
       byte_shown _ _ _ c.in_radix-4.ensures c.laid_out-4.ensures (search rules),
-      c.encode.ensures,
+      c.from.ensures,
     ) at c.write.ensures.writes
