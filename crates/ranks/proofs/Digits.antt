@@ -26,4 +26,4 @@ pub how_many_bits : (n a : ℕ) → how_many n (bit a) ≡ ones (a % 2 ^ n)
 unfolding how_many bit ones ones_in
 how_many_bits zero a = rw (mod-one a)
 how_many_bits (suc n) a =
-    grind (arith, how_many_bits n a, mod-pow-add a 1 n, one-add n, ones_cat n (a / 2 ^ n % 2) (a % 2 ^ n), mod_below a (2 ^ n) (pow_pos n), bit_ones (a / 2 ^ n % 2) (bit_at-lt a n))
+    grind (arith, how_many_bits n a, mod-pow-add a 1 n, one-add, ones_cat, mod_below, pow_pos, bit_ones, bit_at-lt)

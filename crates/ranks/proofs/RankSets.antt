@@ -13,28 +13,28 @@ use Rattle.ranks.proofs.Digits.{highest_bit, how_many_bits}
 use borrow.Author.Numbers.{leading_lt}
 
 mask_below : (r : ℕ) → mask_of r < 2 ^ 16
-mask_below r = grind (arith, nat_tests, pow_below r 16)
+mask_below r = grind (arith, nat_tests, pow_below)
 
 mask_bit : (r k : ℕ) → k < 16 → bit (mask_of r) k ≡ eqb k r
 unfolding bit
-mask_bit r k h = grind (arith, nat_tests, bit_at-zero k, bit_at-pow_same r, bit_at-pow_other r k)
+mask_bit r k h = grind (arith, nat_tests, bit_at-zero, bit_at-pow_same, bit_at-pow_other)
 
 pub ranks_none : ranks no_ranks ≡ empty
 unfolding below empty bit
-ranks_none = fun_ext (λ k. grind (arith, nat_tests, bit_at-zero k))
+ranks_none = fun_ext (λ k. grind (arith, nat_tests, bit_at-zero))
 
 pub ranks_inserted : (r : ℕ) (s : RankSet) → ranks (inserted r s) ≡ below 16 (adding r (ranks s))
 unfolding below adding bit
-ranks_inserted r s = fun_ext (λ k. grind (arith, nat_tests, bit_at_or s.bits (mask_of r) k, bit_at-lt s.bits k, mask_bit r k))
+ranks_inserted r s = fun_ext (λ k. grind (arith, nat_tests, bit_at_or, bit_at-lt, mask_bit))
 
 pub ranks_removed : (r : ℕ) (s : RankSet) → ranks (removed r s) ≡ removing r (ranks s)
 unfolding below removing bit
 ranks_removed r s =
-    fun_ext (λ k. grind (arith, nat_tests, bit_at_and s.bits (65535 - mask_of r) k, bit_at-lt s.bits k, bit_at_not w16 (mask_of r) k (mask_below r), bit_at-lt (mask_of r) k, mask_bit r k))
+    fun_ext (λ k. grind (arith, nat_tests, bit_at_and, bit_at-lt s.bits, bit_at_not w16 (mask_of r) k, mask_below r, mask_bit r k))
 
 pub ranks_intersected : (s t : RankSet) (k : ℕ) → ranks (intersected s t) k ≡ (ranks s k && ranks t k)
 unfolding below bit
-ranks_intersected s t k = grind (arith, nat_tests, bit_at_and s.bits t.bits k, bit_at-lt s.bits k, bit_at-lt t.bits k)
+ranks_intersected s t k = grind (arith, nat_tests, bit_at_and, bit_at-lt)
 
 pub ranks_both : (s t : RankSet) → ranks (intersected s t) ≡ both (ranks s) (ranks t)
 unfolding both
@@ -52,26 +52,26 @@ inserted_in_both r s t h e = simp (ranks_both, ranks_inserted) (fun_ext (λ k. g
 -- the ranks below n, for n up to 16
 pub ranks_lowest : (n k : ℕ) → n ≤ 16 → ranks (record { bits = 2 ^ n - 1 }) k ≡ ltb k n
 unfolding below bit
-ranks_lowest n k h = grind (arith, nat_tests, bit_at_ones n k, bit_at_ones_above n k)
+ranks_lowest n k h = grind (arith, nat_tests, bit_at_ones, bit_at_ones_above)
 
 -- what is found in the bits of a number below 2 ^ 16
 all_bits : (a : ℕ) → a < 65536 → below 16 (bit a) ≡ bit a
 unfolding below bit
-all_bits a h = fun_ext (λ k. grind (arith, nat_tests, bit_at_above a 16 k h))
+all_bits a h = fun_ext (λ k. grind (arith, nat_tests, bit_at_above a 16))
 
 none_found : highest 16 (bit 0) ≡ None
 unfolding highest bit
 none_found = refl
 
 pub top_found : (a : ℕ) → a < 65536 → cond (eqb a 0) None (Some (15 - count_leading_zeros 16 a)) ≡ highest 16 (below 16 (bit a))
-top_found a h = rw (all_bits a h) (grind (arith, nat_tests, none_found, highest_bit 16 a))
+top_found a h = rw (all_bits a h) (grind (arith, nat_tests, none_found, highest_bit))
 
 pub empty_tested : (a : ℕ) → a < 65536 → eqb a 0 ≡ not (is_some (highest 16 (below 16 (bit a))))
 empty_tested a h = rw (← top_found a h) (grind (arith, nat_tests))
 
 pub outranking_tested : (a b : ℕ) → a < 65536 → b < 65536 → ltb (count_leading_zeros 16 a) (count_leading_zeros 16 b) ≡ above (highest 16 (below 16 (bit a))) (highest 16 (below 16 (bit b)))
 unfolding above
-outranking_tested a b h g = rw (← top_found a h, ← top_found b g) (grind (arith, nat_tests, leading_of_zero 16, leading_lt 16 a, leading_lt 16 b, leading_le 16 b))
+outranking_tested a b h g = rw (← top_found a h, ← top_found b g) (grind (arith, nat_tests, leading_of_zero, leading_lt, leading_le))
 
 pub all_counted : (a : ℕ) → a < 65536 → ones a ≡ how_many 16 (below 16 (bit a))
 all_counted a h = rw (all_bits a h, how_many_bits 16 a, mod-eq_of_lt h)
