@@ -12,7 +12,7 @@ rank_list_none s e = from_the_top_none 16 (ranks s) (λ rank. rank) e
 
 pub rank_list_first : (s t : RankSet) (r : ℕ) → Some r ≡ highest 16 (ranks s) → ranks t ≡ removing r (ranks s) → rank_list s ≡ r ∷ rank_list t
 unfolding rank_list
-rank_list_first s t r e gone = from_the_top_first 16 (ranks s) (λ rank. rank) r e ∙ ap (λ p. r ∷ from_the_top 16 p (λ rank. rank)) (sym gone)
+rank_list_first s t r e gone = rw gone (from_the_top_first 16 (ranks s) (λ rank. rank) r e)
 
 pub rank_list_length : (s : RankSet) → length (rank_list s) ≡ how_many 16 (ranks s)
 unfolding rank_list

@@ -12,9 +12,6 @@ use Rattle.ranks.specs.RankSets.{ranks, no_ranks, mask_of, inserted, removed, in
 use Rattle.ranks.proofs.Digits.{highest_bit, how_many_bits}
 use borrow.Author.Numbers.{leading_lt}
 
-mask_below : (r : ℕ) → mask_of r < 2 ^ 16
-mask_below r = grind (arith, nat_tests, pow_below)
-
 mask_bit : (r k : ℕ) → k < 16 → bit (mask_of r) k ≡ eqb k r
 unfolding bit
 mask_bit r k h = grind (arith, nat_tests, bit_at-zero, bit_at-pow_same, bit_at-pow_other)
@@ -30,7 +27,7 @@ ranks_inserted r s = fun_ext (λ k. grind (arith, nat_tests, bit_at_or, bit_at-l
 pub ranks_removed : (r : ℕ) (s : RankSet) → ranks (removed r s) ≡ removing r (ranks s)
 unfolding below removing bit
 ranks_removed r s =
-    fun_ext (λ k. grind (arith, nat_tests, bit_at_and, bit_at-lt s.bits, bit_at_not w16 (mask_of r) k, mask_below r, mask_bit r k))
+    fun_ext (λ k. grind (arith, nat_tests, bit_at_and, bit_at-lt s.bits, bit_at_not w16 (mask_of r) k, pow_below r 16, mask_bit r k))
 
 pub ranks_intersected : (s t : RankSet) (k : ℕ) → ranks (intersected s t) k ≡ (ranks s k && ranks t k)
 unfolding below bit

@@ -9,4 +9,4 @@ pub returns-clause-steps : goal.returns-clause-steps
 returns-clause-steps c = rank_list_first _ _ _ (sym c.in_ok-rank.was ∙ c.highest.ensures) c.remove.ensures.ranks
 
 pub returns-clause-goes : goal.returns-clause-goes
-returns-clause-goes c = record { on = λ f. (tt, tt, omega (arith, ap length (returns-clause-steps c))); keeps = tt; rests = λ f. tt }
+returns-clause-goes c = search (rules, ap length (returns-clause-steps c))
