@@ -1,11 +1,11 @@
 -- From a fresh start, the time-outs are the clocks whose number is a multiple of divisor × constant, and the count steps
 -- whose number is a multiple of the constant.
-use Rattle.std.proofs.Common.{◌≡◌, ℕ, zero, suc, ◌+◌, ◌-◌, ◌*◌, ◌%◌, ◌<◌, ◌≤◌, false, cond, eqb, ◌⊎◌, ◌≢◌, sym, refl, ap, ◌∙◌, subst, inl, inr, mod-eq_of_lt, mul-pos, mul-suc, mul_comm, one-mul, add-one, add-zero, le-mul_of_pos_right, arith}
+use Rattle.std.proofs.Common.{◌≡◌, ℕ, zero, suc, ◌+◌, ◌-◌, ◌*◌, ◌%◌, ◌<◌, ◌≤◌, cond, eqb, ◌≢◌, refl, ◌∙◌, mod-eq_of_lt, mul-pos, mul-suc, one-mul, add-one, le-mul_of_pos_right, arith}
 use native.Mathlib.Nat.{suc-mod, mod_self, zero-mod, sub-zero}
 use Rattle.std.proofs.lemmas.Nat.{mod_below}
 use Rattle.std.proofs.lemmas.Bool.Decides.{nat_tests}
 use Rattle.count_stage.specs.declared.CountStage.{CountStage}
-use Rattle.count_stage.specs.Stage.{count_of, one_lower, started, step_times_out, stepped, clock_times_out, clocked}
+use Rattle.count_stage.specs.Stage.{count_of, one_lower, started, step_times_out, clock_times_out, clocked}
 use Rattle.count_stage.specs.Runs.{after_clocks, after_steps}
 
 -- s is a stage with the constant c, whose next time-out is the l-th clock from now
@@ -14,10 +14,6 @@ record Due (d c l : ℕ) (s : CountStage) : Type 0 where
   byte : s.counter < 256
   inside : s.prescaler < d
   left : l + s.prescaler ≡ d * count_of s.counter
-
--- what a clock answers there, and when the time-out after it is due
-abbrev Clock : ℕ → ℕ → ℕ → CountStage → Type 0
-Clock d c l s = (clock_times_out d s ≡ eqb l 1) × Due d c (cond (eqb l 1) (d * count_of c) (l - 1)) (clocked d s)
 
 pub count_positive : (c : ℕ) → c < 256 → 0 < count_of c
 count_positive c h = grind (arith, nat_tests)
@@ -31,7 +27,8 @@ one_step d b h n =
     let e : count_of b ≡ suc (count_of (one_lower b)) = grind (arith, nat_tests) in
     rw e (mul-suc d _, le-mul_of_pos_right d (count_positive (one_lower b) (omega arith)))
 
-clock : (d c l : ℕ) (s : CountStage) → c < 256 → Due d c l s → Clock d c l s
+-- what a clock answers there, and when the time-out after it is due
+clock : (d c l : ℕ) (s : CountStage) → c < 256 → Due d c l s → (clock_times_out d s ≡ eqb l 1) × Due d c (cond (eqb l 1) (d * count_of c) (l - 1)) (clocked d s)
 clock d c l s k h = grind (arith, nat_tests, one_step d s.counter)
 
 -- a number that falls from P to 1 and starts over at P

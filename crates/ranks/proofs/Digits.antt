@@ -1,5 +1,5 @@
 -- The bits of a number.
-use Rattle.std.proofs.Common.{◌≡◌, ℕ, zero, suc, ◌+◌, ◌-◌, ◌*◌, ◌/◌, ◌%◌, ◌^◌, ◌<◌, ◌≤◌, cond, eqb, Some, one-add, pow_pos, mod-lt, arith}
+use Rattle.std.proofs.Common.{◌≡◌, ℕ, zero, suc, ◌-◌, ◌/◌, ◌%◌, ◌^◌, ◌<◌, cond, eqb, Some, one-add, pow_pos, arith}
 use native.Mathlib.Nat.{div-eq_of_lt-le, mod-one}
 use lib.Count.{count_leading_zeros, ones, ones_in, ones_cat}
 use Rattle.std.proofs.lemmas.Bool.Decides.{nat_tests}

@@ -1,5 +1,5 @@
 -- Laws of the list of a set's ranks.
-use Rattle.std.proofs.Common.{◌≡◌, ℕ, [], ◌∷◌, length, map, Some, None, sym, ap, ◌∙◌}
+use Rattle.std.proofs.Common.{◌≡◌, ℕ, [], ◌∷◌, length, map, Some, None}
 use Rattle.ranks.specs.declared.set.RankSet.{RankSet}
 use Rattle.ranks.specs.Ranks.{removing, highest, how_many, from_the_top}
 use Rattle.ranks.specs.RankSets.{ranks}

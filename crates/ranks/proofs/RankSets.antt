@@ -1,5 +1,5 @@
 -- What the operations on a set of ranks 0 to 15 make of its ranks.
-use Rattle.std.proofs.Common.{◌≡◌, ℕ, ◌-◌, ◌^◌, ◌<◌, ◌≤◌, true, cond, not, ◌&&◌, eqb, ltb, Some, None, is_some, ap, refl, w16, mod-eq_of_lt, arith}
+use Rattle.std.proofs.Common.{◌≡◌, ℕ, ◌-◌, ◌^◌, ◌<◌, ◌≤◌, true, cond, not, ◌&&◌, eqb, ltb, Some, None, is_some, refl, w16, mod-eq_of_lt, arith}
 use mathlib.Core.Bool.{and_assoc}
 use mathlib.Core.Path.{fun_ext}
 use lib.Count.{count_leading_zeros, ones, leading_of_zero, leading_le}

@@ -1,4 +1,4 @@
-use Rattle.std.proofs.Common.{rules, sym, ◌∙◌, ap, length, arith}
+use Rattle.std.proofs.Common.{rules, sym, ◌∙◌, ap, length}
 use Rattle.ranks.proofs.RankLists.{rank_list_none, rank_list_first}
 use Rattle.ranks.proofs.from_the_top.FromTheTopIterator.next.Goals as goal
 
