@@ -1,8 +1,7 @@
 -- From a fresh start, the time-outs are the clocks whose number is a multiple of divisor × constant, and the count steps
 -- whose number is a multiple of the constant.
 use Rattle.std.proofs.Common.{◌≡◌, ℕ, zero, suc, ◌+◌, ◌-◌, ◌*◌, ◌%◌, ◌<◌, ◌≤◌, cond, eqb, ◌≢◌, refl, ◌∙◌, mod-eq_of_lt, mul-pos, mul-suc, one-mul, add-one, le-mul_of_pos_right, arith}
-use native.Mathlib.Nat.{suc-mod, mod_self, zero-mod, sub-zero}
-use Rattle.std.proofs.lemmas.Nat.{mod_below}
+use native.Mathlib.Nat.{suc-mod, mod_self}
 use Rattle.std.proofs.lemmas.Bool.Decides.{nat_tests}
 use Rattle.count_stage.specs.declared.CountStage.{CountStage}
 use Rattle.count_stage.specs.Stage.{count_of, one_lower, started, step_times_out, clock_times_out, clocked}
@@ -18,10 +17,7 @@ record Due (d c l : ℕ) (s : CountStage) : Type 0 where
 pub count_positive : (c : ℕ) → c < 256 → 0 < count_of c
 count_positive c h = grind (arith, nat_tests)
 
-started_due : (d c : ℕ) → c < 256 → 1 ≤ d → Due d c (d * count_of c) (started c)
-started_due d c k g = omega arith
-
--- a count step of a counter that is not 1 takes the divisor's clocks off
+-- of the clocks that are left, d come until a counter other than 1 makes its count step, and d or more after that
 one_step : (d b : ℕ) → b < 256 → b ≢ 1 → (d * count_of b ≡ d * count_of (one_lower b) + d) × (d ≤ d * count_of (one_lower b))
 one_step d b h n =
     let e : count_of b ≡ suc (count_of (one_lower b)) = grind (arith, nat_tests) in
@@ -33,7 +29,7 @@ clock d c l s k h = grind (arith, nat_tests, one_step d s.counter)
 
 -- a number that falls from P to 1 and starts over at P
 next_multiple : (P n : ℕ) → 0 < P → (eqb (P - n % P) 1 ≡ eqb (suc n % P) 0) × (cond (eqb (P - n % P) 1) P (P - n % P - 1) ≡ P - suc n % P)
-next_multiple P n h = rw suc-mod (grind (arith, nat_tests, mod_below n P, mod_self P, mod-eq_of_lt))
+next_multiple P n h = rw suc-mod (grind (arith, nat_tests, mod_self P, mod-eq_of_lt))
 
 module _ (d c : ℕ) (few : c < 256) (some : 1 ≤ d) where
   abbrev period : ℕ
@@ -44,7 +40,7 @@ module _ (d c : ℕ) (few : c < 256) (some : 1 ≤ d) where
 
   due : (n : ℕ) → Due d c (period - n % period) (after_clocks d n (started c))
   unfolding after_clocks
-  due zero = rw (zero-mod period, sub-zero period) (started_due d c few some)
+  due zero = omega arith
   due (suc n) = rw (← (next_multiple period n period_positive).1) (clock d c _ _ few (due n)).1
 
   pub clocks_at_every_multiple : (n : ℕ) → clock_times_out d (after_clocks d n (started c)) ≡ eqb ((n + 1) % period) 0

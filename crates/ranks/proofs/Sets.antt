@@ -32,10 +32,14 @@ module _ (p : ℕ → Bool) (n : ℕ) (ends : (k : ℕ) → n ≤ k → p k ≡ 
   from_the_top_wider v zero = rw (zero-add n)
   from_the_top_wider v (suc d) = rw (suc-add d n, ends (d + n) (omega arith)) (from_the_top_wider v d)
 
+-- the count is the length of the list
 pub from_the_top_length : (n : ℕ) (p : ℕ → Bool) (v : ℕ → ℕ) → length (from_the_top n p v) ≡ how_many n p
 unfolding from_the_top how_many
 from_the_top_length zero p v = refl
 from_the_top_length (suc n) p v = grind (arith, from_the_top_length n p v)
+
+pub how_many_wider : (p : ℕ → Bool) (n : ℕ) → ((k : ℕ) → n ≤ k → p k ≡ false) → (d : ℕ) → how_many (d + n) p ≡ how_many n p
+how_many_wider p n ends d = cc (from_the_top_length (d + n) p (λ k. k), from_the_top_length n p (λ k. k), from_the_top_wider p n ends (λ k. k) d)
 
 pub from_the_top_none : (n : ℕ) (p : ℕ → Bool) (v : ℕ → ℕ) → None ≡ highest n p → from_the_top n p v ≡ []
 unfolding from_the_top highest
@@ -53,7 +57,3 @@ pub map_from_the_top : (n : ℕ) (p : ℕ → Bool) (v : ℕ → ℕ) → map v 
 unfolding from_the_top
 map_from_the_top zero p v = refl
 map_from_the_top (suc n) p v = grind (arith, map_from_the_top n p v)
-
--- the count is the length of that list
-pub how_many_wider : (p : ℕ → Bool) (n : ℕ) → ((k : ℕ) → n ≤ k → p k ≡ false) → (d : ℕ) → how_many (d + n) p ≡ how_many n p
-how_many_wider p n ends d = cc (from_the_top_length (d + n) p (λ k. k), from_the_top_length n p (λ k. k), from_the_top_wider p n ends (λ k. k) d)
