@@ -47,7 +47,8 @@ pub trait Chain {
     fn waiting_count(&self) -> u16
         ensures { result ≡ min (waiting_number (meaning self.now)) 65535 };
 
-    // Puts the vector of each waiting request at the front of the buffer and answers how many they are, or refuses.
+    // Puts the vector of each waiting request at the front of the buffer and answers how many they are, or refuses. The
+    // memory is the caller's, and no Vec, since a card allocates none.
     fn waiting_list(&self, buffer: &mut [u8]) -> Result<u16, Refusal>
         ensures answer { result ≡ list_answer (waiting_number (meaning self.now)) buffer.old }
         ensures bytes { buffer.new ≡ listed_into (rules.waiting_bytes self.now) buffer.old };
@@ -56,6 +57,8 @@ pub trait Chain {
     ghost sentences: { Sentences Self meaning same rules };
 }
 
+// That service only shrinks stands on each call: it ties two states, which no invariant of the type can, and a caller finds
+// it where the call is.
 pub trait Bus: Chain {
     fn write(&mut self, port: u8, byte: u8) -> Result<(), Refusal>
         ensures answer { result ≡ answered ((Self.Chain.meaning self.old).write_refusal port byte) tt }

@@ -8,7 +8,8 @@ ghost use Rattle.card.specs.Listing.{places_of, list_answer, listed_into};
 use crate::refusals::Refusal;
 use ranks::RankSet;
 
-// What tells the vector of each rank.
+// What tells the vector of each rank. It is no closure: a function that takes one has to require that it may be called, and
+// no public call here requires anything.
 pub trait Vectors {
     ghost vectors: { Self → ℕ → ℕ };
 

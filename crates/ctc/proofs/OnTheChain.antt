@@ -2,26 +2,29 @@
 use Rattle.std.proofs.Common.{◌≡◌, ℕ, ◌<◌, min, Bool, cond, not, ◌&&◌, List, Some, None, Option, is_some, Result, sym, refl, ap, ◌∙◌, ap₂, arith}
 use mathlib.Core.Bool.{and_assoc}
 use Rattle.ranks.specs.declared.set.RankSet.{RankSet}
-use Rattle.ranks.specs.Ranks.{how_many, from_the_top, above}
-use Rattle.ranks.specs.RankSets.{ranks}
+use Rattle.ranks.specs.Ranks.{highest, how_many, from_the_top, above}
+use Rattle.ranks.specs.RankSets.{ranks, intersected}
 use Rattle.card.specs.declared.refusals.Refusal.{Refusal}
 use Rattle.card.specs.Listing.{list_answer, listed_into}
 use Rattle.card.specs.Meaning.{asks, waits, serves, quiet, vector_of, pulls, rank_acknowledged, vector_answered, rank_returned, ieo_of, ieo_during_return}
 use Rattle.ctc.specs.declared.chip.Ctc.{Ctc}
-use Rattle.ctc.specs.Chip.{waiting_set, top_waiting, top_in_service, vector_at, with_taken, with_ended}
+use Rattle.ctc.specs.Chip.{four_ranks, waiting_set, service_set, top_waiting, top_in_service, vector_at, with_taken, with_ended}
 use Rattle.ctc.specs.Card.{ctc_meaning, taken_if_any, ended_if_any, ctc_rules}
 use Rattle.ctc.specs.FourRanks.{highest_of_four, how_many_of_four, from_the_top_of_four}
 
-module _ (c : Ctc) (iei : Bool) where
-  pub ieo_is : (w s : Bool) → w ≡ not (is_some (top_waiting c)) → s ≡ not (is_some (top_in_service c)) → ((iei && w) && s) ≡ ieo_of iei (ctc_meaning c)
-  unfolding ieo_of quiet waits serves
-  ieo_is w s p q =
-      ap₂ (λ x y. (iei && x) && y) (p ∙ ap (λ o. not (is_some o)) (highest_of_four c.waiting)) (q ∙ ap (λ o. not (is_some o)) (highest_of_four c.service))
-      ∙ and_assoc iei _ _
+-- whether a set that is cut to four ranks is empty
+empty_is : (s cut : RankSet) (e : Bool) → cut ≡ intersected s four_ranks → e ≡ not (is_some (highest 16 (ranks cut))) → e ≡ not (is_some (highest 4 (ranks (intersected s four_ranks))))
+empty_is s cut e p q = q ∙ ap (λ t. not (is_some (highest 16 (ranks t)))) p ∙ ap (λ o. not (is_some o)) (highest_of_four s)
 
-  pub ieo_during_return_is : (s : Bool) → s ≡ not (is_some (top_in_service c)) → (iei && s) ≡ ieo_during_return iei (ctc_meaning c)
+module _ (c : Ctc) (iei : Bool) where
+  pub ieo_is : (w s : RankSet) (x y : Bool) → w ≡ waiting_set c → x ≡ not (is_some (highest 16 (ranks w))) → s ≡ service_set c → y ≡ not (is_some (highest 16 (ranks s)))
+      → ((iei && x) && y) ≡ ieo_of iei (ctc_meaning c)
+  unfolding ieo_of quiet waits serves
+  ieo_is w s x y p d q e = ap₂ (λ a b. (iei && a) && b) (empty_is c.waiting w x p d) (empty_is c.service s y q e) ∙ and_assoc iei _ _
+
+  pub ieo_during_return_is : (s : RankSet) (y : Bool) → s ≡ service_set c → y ≡ not (is_some (highest 16 (ranks s))) → (iei && y) ≡ ieo_during_return iei (ctc_meaning c)
   unfolding ieo_during_return serves
-  ieo_during_return_is s q = ap (λ x. iei && x) (q ∙ ap (λ o. not (is_some o)) (highest_of_four c.service))
+  ieo_during_return_is s y q e = ap (λ b. iei && b) (empty_is c.service s y q e)
 
   above_is : above (top_waiting c) (top_in_service c) ≡ asks (ctc_meaning c)
   unfolding asks

@@ -29,7 +29,7 @@ impl Chain for Ctc {
     }
 
     fn ieo(&self, iei: bool) -> bool {
-        iei & self.nothing_waits() & self.nothing_in_service()
+        iei & self.waiting_ranks().is_empty() & self.service_ranks().is_empty()
     }
 
     fn pulls_int(&self, iei: bool) -> bool {
@@ -44,7 +44,7 @@ impl Chain for Ctc {
     }
 
     fn ieo_during_return(&self, iei: bool) -> bool {
-        iei & self.nothing_in_service()
+        iei & self.service_ranks().is_empty()
     }
 
     fn return_from_interrupt(&mut self, iei: bool) {

@@ -1,5 +1,5 @@
 // The registers of a CTC, and what its calls make of them.
-ghost use Rattle.std.specs.Prelude.{◌≡◌, ◌<◌, not, ◌&&◌, if◌then◌else◌, None, is_some};
+ghost use Rattle.std.specs.Prelude.{◌≡◌, ◌&&◌, if◌then◌else◌, None};
 ghost use Rattle.ranks.specs.Ranks.{above};
 ghost use Rattle.card.specs.Refusals.{answered};
 ghost use Rattle.ctc.specs.Chip.{new_ctc, takes, waiting_set, service_set, top_waiting, top_in_service, vector_at, raised, StepsChannel, port_refusal, with_taken, with_ended, ctc_reset, ctc_clocked, channel_at, role_of, control_set, written, write_refusal, read_refusal, counter_at, line_set, line_refusal};
@@ -68,18 +68,6 @@ impl Ctc {
         ensures { result ≡ service_set self.now }
     {
         self.service.intersection(RankSet::from(15))
-    }
-
-    pub(crate) fn nothing_waits(&self) -> bool
-        ensures { result ≡ not (is_some (top_waiting self.now)) }
-    {
-        self.waiting_ranks().is_empty()
-    }
-
-    pub(crate) fn nothing_in_service(&self) -> bool
-        ensures { result ≡ not (is_some (top_in_service self.now)) }
-    {
-        self.service_ranks().is_empty()
     }
 
     // Whether a waiting rank is above every rank in service.

@@ -3,7 +3,8 @@ ghost use Rattle.std.specs.Prelude.{◌≡◌, ◌<◌};
 ghost use Rattle.ranks.specs.Ranks.{bit};
 ghost use Rattle.ctc_channel.specs.ControlWords.{is_control_word, stops, constant_follows, cleared, control_of, divisor_of, prescaler_restarts, starts_armed, edge_acts};
 
-// The bits of a control word that a channel keeps.
+// The bits of a control word that a channel keeps, as bools: an enum for the two values of a bit would only add a conversion
+// and a comparison, here and in the definitions.
 #[derive(Clone, Copy)]
 pub struct Control {
     interrupt: bool,

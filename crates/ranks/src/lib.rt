@@ -1,7 +1,6 @@
 // Requests of a card are told apart by rank: the higher outranks the lower, and is served first.
 #![tactic(auto)]
 
-mod bits;
 pub mod from_the_top;
 pub mod set;
 

@@ -1,9 +1,7 @@
 // A set of ranks.
 ghost use Rattle.std.specs.Prelude.{◌≡◌, not, is_some};
 ghost use Rattle.ranks.specs.Ranks.{adding, removing, both, below, highest, above, how_many};
-ghost use Rattle.ranks.specs.RankSets.{ranks, no_ranks, inserted, removed, intersected};
-
-use crate::bits;
+ghost use Rattle.ranks.specs.RankSets.{ranks, no_ranks, mask_of, inserted, removed, intersected};
 
 // A set of ranks 0 to 15: bit k is set where rank k is in it.
 #[derive(Clone, Copy)]
@@ -29,26 +27,30 @@ impl RankSet {
     pub fn is_empty(self) -> bool
         ensures { result ≡ not (is_some (highest 16 (ranks self))) }
     {
-        bits::none(self.bits)
+        self.bits == 0
     }
 
     pub fn highest(self) -> Option<u8>
         ensures { result ≡ highest 16 (ranks self) }
     {
-        bits::top(self.bits)
+        if self.bits == 0 {
+            None
+        } else {
+            Some((15 - self.bits.leading_zeros()) as u8)
+        }
     }
 
     // Whether a rank of the set is above every rank of the other.
     pub fn outranks(self, other: RankSet) -> bool
         ensures { result ≡ above (highest 16 (ranks self)) (highest 16 (ranks other)) }
     {
-        bits::reach_higher(self.bits, other.bits)
+        self.bits.leading_zeros() < other.bits.leading_zeros()
     }
 
     pub fn len(self) -> u16
         ensures { result ≡ how_many 16 (ranks self) }
     {
-        bits::count(self.bits)
+        self.bits.count_ones() as u16
     }
 
     // The ranks that are in both.
@@ -57,7 +59,7 @@ impl RankSet {
         ensures ranks { ranks result ≡ both (ranks self) (ranks other) }
     {
         RankSet {
-            bits: bits::shared(self.bits, other.bits),
+            bits: self.bits & other.bits,
         }
     }
 
@@ -66,13 +68,20 @@ impl RankSet {
         ensures bits { self.new ≡ inserted rank self.old }
         ensures ranks { ranks self.new ≡ below 16 (adding rank (ranks self.old)) }
     {
-        self.bits = bits::with(self.bits, rank);
+        self.bits |= mask(rank);
     }
 
     pub fn remove(&mut self, rank: u8)
         ensures bits { self.new ≡ removed rank self.old }
         ensures ranks { ranks self.new ≡ removing rank (ranks self.old) }
     {
-        self.bits = bits::without(self.bits, rank);
+        self.bits &= !mask(rank);
     }
+}
+
+// The bit of a rank, and none above 15.
+fn mask(rank: u8) -> u16
+    ensures { result ≡ mask_of rank }
+{
+    if rank < 16 { 1 << rank } else { 0 }
 }

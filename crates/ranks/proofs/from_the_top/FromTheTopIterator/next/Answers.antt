@@ -1,4 +1,4 @@
-use Rattle.std.proofs.Common.{rules, sym, ◌∙◌, ap, length, arith}
+use Rattle.std.proofs.Common.{rules, sym, ◌∙◌, ap, length}
 use Rattle.ranks.proofs.RankLists.{rank_list_none, rank_list_first}
 use Rattle.ranks.proofs.from_the_top.FromTheTopIterator.next.Goals as goal
 
@@ -9,4 +9,4 @@ pub returns-clause-steps : goal.returns-clause-steps
 returns-clause-steps c = rank_list_first _ _ _ (sym c.in_ok-rank.was ∙ c.highest.ensures) c.remove.ensures.ranks
 
 pub returns-clause-goes : goal.returns-clause-goes
-returns-clause-goes c = record { on = λ f. (tt, tt, omega (arith, ap length (returns-clause-steps c))); keeps = tt; rests = λ f. tt }
+returns-clause-goes c = search (rules, ap length (returns-clause-steps c))
