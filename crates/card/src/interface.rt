@@ -58,7 +58,8 @@ pub trait Chain {
 }
 
 // That service only shrinks stands on each call: it ties two states, which no invariant of the type can, and a caller finds
-// it where the call is.
+// it where the call is. A port with its byte, or with line and level, is no struct: each call would make it only to have it
+// taken apart.
 pub trait Bus: Chain {
     fn write(&mut self, port: u8, byte: u8) -> Result<(), Refusal>
         ensures answer { result ≡ answered ((Self.Chain.meaning self.old).write_refusal port byte) tt }
