@@ -47,7 +47,7 @@ impl ExactSizeIterator for Calls<'_> {
 }
 
 // The call that the bytes begin with, and the bytes after it; none where they end or the call is malformed.
-pub(crate) fn split_first(bytes: &[u8]) -> Option<(Call, &[u8])>
+fn split_first(bytes: &[u8]) -> Option<(Call, &[u8])>
     ensures { Splits bytes.now result }
 {
     let [letter, first, second, rest @ ..] = bytes else {
