@@ -118,12 +118,12 @@ written_if_any (Ok role) k byte c = written_as role k byte c
 written_if_any (Err why) k byte c = c
 
 -- and is refused so
-abbrev pub refused_if_none : Result Role Refusal → Option Refusal
-refused_if_none (Ok role) = None
-refused_if_none (Err why) = Some why
+abbrev pub why_refused : Result Role Refusal → Option Refusal
+why_refused (Ok role) = None
+why_refused (Err why) = Some why
 
 abbrev pub write_refusal : Ctc → ℕ → ℕ → Option Refusal
-write_refusal c port byte = cond (takes c port) (refused_if_none (role_in c port byte)) (Some PortNotTaken)
+write_refusal c port byte = cond (takes c port) (why_refused (role_in c port byte)) (Some PortNotTaken)
 
 abbrev pub written : Ctc → ℕ → ℕ → Ctc
 written c port byte = cond (takes c port) (written_if_any (role_in c port byte) (channel_of port) byte c) c

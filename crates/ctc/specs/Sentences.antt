@@ -17,7 +17,7 @@ use Rattle.ctc.specs.declared.chip.Role.{Role}
 use Rattle.ctc.specs.declared.chip.Role.TheVariants.{Constant, ControlWord, VectorHead}
 use Rattle.ctc.specs.declared.chip.Ctc.{Ctc}
 use Rattle.ctc.specs.Numbers.{channel_of}
-use Rattle.ctc.specs.Chip.{four_ranks, takes, channel_at, role_of, role_in, written_if_any, refused_if_none, line_changed_at}
+use Rattle.ctc.specs.Chip.{four_ranks, takes, channel_at, role_of, role_in, written_if_any, why_refused, line_changed_at}
 use Rattle.ctc.specs.Card.{ctc_meaning, taken_if_any, ended_if_any, ctc_rules}
 use Rattle.ctc.specs.FourRanks.{four, below_four}
 
@@ -62,17 +62,17 @@ unfolding refused_by_1
 off_port true w h = h
 off_port false w h = refl
 
-refused_role_stays : (role : Result Role Refusal) (k b : ℕ) (c : Ctc) → is_refused (refused_if_none role) ≡ true → c ≡ written_if_any role k b c
+refused_role_stays : (role : Result Role Refusal) (k b : ℕ) (c : Ctc) → is_refused (why_refused role) ≡ true → c ≡ written_if_any role k b c
 unfolding is_refused
 refused_role_stays (Err why) k b c h = refl
 refused_role_stays (Ok role) k b c h = cc
 
-role_not_by_1 : (k b : ℕ) (awaits : Bool) → refused_by_1 (refused_if_none (role_of k awaits b)) ≡ false
+role_not_by_1 : (k b : ℕ) (awaits : Bool) → refused_by_1 (why_refused (role_of k awaits b)) ≡ false
 unfolding refused_by_1
 role_not_by_1 k b true = refl
 role_not_by_1 k b false = at (is_control_word b) (k == 0)
   where
-    at : (control first : Bool) → refused_by_1 (refused_if_none (cond control (Ok ControlWord) (cond first (Ok VectorHead) (Err ByteNotAwaited)))) ≡ false
+    at : (control first : Bool) → refused_by_1 (why_refused (cond control (Ok ControlWord) (cond first (Ok VectorHead) (Err ByteNotAwaited)))) ≡ false
     at true first = refl
     at false true = refl
     at false false = refl
@@ -99,7 +99,7 @@ ctc_sentences =
       ranks_below_size = λ c. record { waiting = below_four c.waiting; service = below_four c.service };
       refused_by_1_exactly_off_its_ports = λ c.
           record {
-            write = λ p b. off_port (takes c p) (refused_if_none (role_in c p b)) (role_not_by_1 (channel_of p) b (channel_at (channel_of p) c).awaits);
+            write = λ p b. off_port (takes c p) (why_refused (role_in c p b)) (role_not_by_1 (channel_of p) b (channel_at (channel_of p) c).awaits);
             read = λ p. off_port (takes c p) None none_not_by_1;
             line = λ p l high. off_port (takes c p) (cond (nat_lt 3 l) (Some NoSuchLine) None) (line_not_by_1 (nat_lt 3 l));
           };
@@ -117,7 +117,7 @@ ctc_sentences =
           cond_both (takes c p) _ c (Keeps c)
           (λ e. cond_both (nat_lt 3 l) c _ (Keeps c) (λ g. nothing_moved (ctc_meaning c)) (λ g. keeps c (line_changed_at l high c) refl refl))
           (λ e. nothing_moved (ctc_meaning c));
-      refused_write_alters_nothing = λ c p b. refused_stays (takes c p) (refused_if_none (role_in c p b)) c _ (refused_role_stays (role_in c p b) (channel_of p) b c);
+      refused_write_alters_nothing = λ c p b. refused_stays (takes c p) (why_refused (role_in c p b)) c _ (refused_role_stays (role_in c p b) (channel_of p) b c);
       refused_read_alters_nothing = λ c p h. refl;
       refused_line_alters_nothing = λ c p l high. refused_stays (takes c p) (cond (nat_lt 3 l) (Some NoSuchLine) None) c _ (refused_line_stays (nat_lt 3 l) c (line_changed_at l high c));
     }
