@@ -4,6 +4,7 @@ use native.Mathlib.Nat.{mod_self}
 use mathlib.Core.Bool.{or-false}
 use Rattle.std.proofs.lemmas.List.{length-set, get_or-set_same, get_or-set_other}
 use Rattle.std.proofs.lemmas.Nat.{mod_below}
+use Rattle.std.proofs.lemmas.Bool.Decides.{nat_tests}
 use Rattle.std.proofs.lemmas.Bool.{eq-eqb, ne_eqb, le-leb, lt-leb, lt-ltb, cases_lt, cases_eq, or_right, cond-true}
 use Rattle.ranks.specs.declared.set.RankSet.{RankSet}
 use Rattle.ranks.specs.Ranks.{adding}
@@ -37,12 +38,8 @@ module _ (k : ℕ) (l : k < 4) (c : Ctc) (x : Channel) (w : Bool) (s : Seen k c 
       record {
         whole = length-set c.channels j y ∙ s.whole;
         channel = get_or-set_other c.channels j k y new_channel ne ∙ s.channel;
-        requested = not_raised raises ∙ s.requested;
+        requested = grind (arith, nat_tests, rank_raised j k c.waiting h);
       }
-    where
-      not_raised : (t : Bool) → ranks (intersected (cond t (inserted (rank_of j) c.waiting) c.waiting) four_ranks) (rank_of k) ≡ requests k c
-      not_raised true = rank_raised j k c.waiting h ∙ rw (ne_eqb (rank_of k) (rank_of j) (λ e. ne (omega arith)))
-      not_raised false = refl
 
   -- channel k changes
   pub seen_there : (y : Channel) (raises : Bool) → Seen k (channel_became k y raises c) y (w || raises)
@@ -50,47 +47,23 @@ module _ (k : ℕ) (l : k < 4) (c : Ctc) (x : Channel) (w : Bool) (s : Seen k c 
       record {
         whole = length-set c.channels k y ∙ s.whole;
         channel = get_or-set_same c.channels k y new_channel (omega (arith, s.whole));
-        requested = raised raises ∙ ap (λ t. t || raises) s.requested;
+        requested = grind (arith, nat_tests, rank_raised k k c.waiting l);
       }
-    where
-      raised : (t : Bool) → ranks (intersected (cond t (inserted (rank_of k) c.waiting) c.waiting) four_ranks) (rank_of k) ≡ (requests k c || t)
-      raised true = rank_raised k k c.waiting l ∙ rw (eq-eqb (rank_of k) (rank_of k) refl) (sym (or_right (requests k c) true refl))
-      raised false = sym (or-false (requests k c))
 
 -- the first multiple of P is P
 first_multiple : (P n : ℕ) → 0 < P → leb P (suc n) ≡ (leb P n || eqb ((n + 1) % P) 0)
-first_multiple P n h = by_size (cases_lt n P) (cases_eq (n + 1) P)
-  where
-    by_size : (n < P) ⊎ (P ≤ n) → (n + 1 ≡ P) ⊎ (n + 1 ≡ P → ⊥) → leb P (suc n) ≡ (leb P n || eqb ((n + 1) % P) 0)
-    by_size (inr l) e = rw (le-leb P n l, le-leb P (suc n) (omega arith))
-    by_size (inl l) (inl e) = rw (lt-leb P n l, le-leb P (suc n) (omega arith)) (sym (eq-eqb ((n + 1) % P) 0 (ap (λ z. z % P) e ∙ mod_self P)))
-    by_size (inl l) (inr e) =
-        let m : (n + 1) % P ≡ n + 1 = mod-eq_of_lt (omega arith) in
-        rw (lt-leb P n l, lt-leb P (suc n) (omega arith)) (sym (ne_eqb ((n + 1) % P) 0 (λ z. omega arith)))
+first_multiple P n h = grind (arith, nat_tests, mod-eq_of_lt, mod_self P)
 
 -- rounds of calls: round n, counted from 0, raises the request of channel k where n + 1 is a multiple of P, if i is set
 module _ (k P : ℕ) (i : Bool) (positive : 0 < P) (next : Ctc → Ctc) (channel : ℕ → Channel)
     (round : (n : ℕ) (c : Ctc) (w : Bool) → Seen k c (channel n) w → Seen k (next c) (channel (suc n)) (w || (eqb ((n + 1) % P) 0 && i))) where
   next_request : (w : Bool) (n : ℕ) → ((w || (i && leb P n)) || (eqb ((n + 1) % P) 0 && i)) ≡ (w || (i && leb P (suc n)))
-  next_request w n = joined w i (leb P n) (eqb ((n + 1) % P) 0) ∙ ap (λ b. w || (i && b)) (sym (first_multiple P n positive))
-    where
-      joined : (w i a e : Bool) → ((w || (i && a)) || (e && i)) ≡ (w || (i && (a || e)))
-      joined true i a e = refl
-      joined false true true e = refl
-      joined false true false true = refl
-      joined false true false false = refl
-      joined false false a true = refl
-      joined false false a false = refl
+  next_request w n = rw (first_multiple P n positive) (grind arith)
 
   pub seen_after : (c : Ctc) (w : Bool) → Seen k c (channel 0) w → (n : ℕ) → Seen k (after n next c) (channel n) (w || (i && leb P n))
   unfolding after
-  seen_after c w s zero = subst (Seen k c (channel 0)) (none_yet w i (leb P 0) (lt-leb P 0 positive)) s
-    where
-      none_yet : (w i b : Bool) → b ≡ false → w ≡ (w || (i && b))
-      none_yet true i b e = refl
-      none_yet false true b e = sym e
-      none_yet false false b e = refl
-  seen_after c w s (suc n) = subst (Seen k (next (after n next c)) (channel (suc n))) (next_request w n) (round n (after n next c) (w || (i && leb P n)) (seen_after c w s n))
+  seen_after c w s zero = grind (arith, nat_tests)
+  seen_after c w s (suc n) = rw (← next_request w n) (round n (after n next c) (w || (i && leb P n)) (seen_after c w s n))
 
 -- a constant that sets its channel running
 module _ (c : Ctc) (port t : ℕ) (starts : Starts c port t) where
