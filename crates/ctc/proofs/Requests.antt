@@ -45,15 +45,12 @@ seen_became port j {c} {x} {w} s h y raises =
 pub seen_there : (port : ℕ) {c : Ctc} {x : Channel} {w : Bool} → Seen port c x w → (y : Channel) (raises : Bool) → Seen port (channel_became (channel_of port) y raises c) y (raises || w)
 seen_there port s y raises = rw (eq-eqb (channel_of port) _ refl) at (seen_became port (channel_of port) s (omega arith) y raises)
 
--- the first multiple of P is P
-first_multiple : (P n : ℕ) → 0 < P → leb P (suc n) ≡ (leb P n || eqb ((n + 1) % P) 0)
-first_multiple P n h = grind (arith, nat_tests, mod-eq_of_lt, mod_self P)
-
 -- rounds of calls: round n, counted from 0, raises the request where n + 1 is a multiple of P, if i is set
 module _ (port P : ℕ) (i : Bool) (positive : 0 < P) (next : Ctc → Ctc) (channel : ℕ → Channel)
     (round : (n : ℕ) (c : Ctc) (w : Bool) → Seen port c (channel n) w → Seen port (next c) (channel (suc n)) ((eqb ((n + 1) % P) 0 && i) || w)) where
+  -- the first multiple of P is P
   next_request : (w : Bool) (n : ℕ) → ((eqb ((n + 1) % P) 0 && i) || (w || (i && leb P n))) ≡ (w || (i && leb P (suc n)))
-  next_request w n = rw (first_multiple P n positive) (grind arith)
+  next_request w n = grind (arith, nat_tests, mod-eq_of_lt, mod_self P)
 
   pub seen_after : (c : Ctc) (w : Bool) → Seen port c (channel 0) w → (n : ℕ) → Seen port (after n next c) (channel n) (w || (i && leb P n))
   unfolding after

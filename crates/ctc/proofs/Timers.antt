@@ -26,31 +26,13 @@ seen_clock port c x w s =
     rw (lt-ltb (channel_of port) 4 (omega arith))
     at (one_more port 3 x w _ (omega arith) (one_more port 2 x w _ (omega arith) (one_more port 1 x w _ (omega arith) (one_more port 0 x w c (omega arith) (rw (le-ltb (channel_of port) 0 (omega arith)) s)))))
 
-module _ (x : Channel) (counts : counts_clocks x ≡ true) (t : ℕ) (few : t < 256) where
-  abbrev divisor : ℕ
-  divisor = divisor_of x.control
-
-  positive_divisor : 1 ≤ divisor
-  positive_divisor = grind arith
-
-  -- the channel after n clocks
-  abbrev ran : ℕ → Channel
-  ran n = with_stage (after_clocks divisor n (started t)) x
-
-  next_channel : (n : ℕ) → channel_clocked (ran n) ≡ ran (suc n)
-  unfolding after_clocks
-  next_channel n = rw counts
-
-  next_raise : (n : ℕ) → clock_raises (ran n) ≡ (eqb ((n + 1) % (divisor * count_of t)) 0 && x.control.interrupt)
-  next_raise n = rw (counts, clocks_at_every_multiple divisor t few positive_divisor n)
-
-  requests_on_time : (port : ℕ) (c : Ctc) (w : Bool) → Seen port c (ran 0) w → (n : ℕ) → Seen port (after n ctc_clocked c) (ran n) (w || (x.control.interrupt && leb (divisor * count_of t) n))
-  requests_on_time port =
-      seen_after port (divisor * count_of t) x.control.interrupt (period_positive divisor t few positive_divisor) ctc_clocked ran
-      (λ n c w s. rw (← next_channel n, ← next_raise n) (seen_clock port c (ran n) w s))
-
 pub timers_request_on_time : TimersRequestOnTime
 unfolding after_clocks
 timers_request_on_time c port t n starts timer =
     let x : Channel = begun t (channel_at (channel_of port) c) in
-    (requests_on_time x (ap not timer) t starts.is_byte port (written c port t) (requests (channel_of port) c) (seen_started c port t starts) n).requested
+    let d : ℕ = divisor_of x.control in
+    let some : 1 ≤ d = grind arith in
+    let ran : ℕ → Channel = λ m. with_stage (after_clocks d m (started t)) x in
+    (seen_after port (d * count_of t) x.control.interrupt (period_positive d t starts.is_byte some) ctc_clocked ran
+    (λ m e w s. rw (timer, clocks_at_every_multiple d t starts.is_byte some m) at (seen_clock port e (ran m) w s))
+    (written c port t) (requests (channel_of port) c) (seen_started c port t starts) n).requested
