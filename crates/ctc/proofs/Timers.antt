@@ -1,5 +1,5 @@
 -- A channel that a constant starts in timer mode requests on time.
-use Rattle.std.proofs.Common.{◌≡◌, ℕ, suc, ◌+◌, ◌*◌, ◌%◌, ◌<◌, ◌≤◌, Bool, true, cond, not, ◌&&◌, ◌||◌, eqb, ltb, leb, ap, arith}
+use Rattle.std.proofs.Common.{ℕ, suc, ◌*◌, ◌<◌, ◌≤◌, Bool, cond, ◌||◌, ltb, arith}
 use Rattle.std.proofs.lemmas.Bool.{lt-ltb, le-ltb}
 use Rattle.std.proofs.lemmas.Bool.Decides.{nat_tests}
 use Rattle.count_stage.specs.Stage.{count_of, started}
@@ -8,10 +8,10 @@ use Rattle.count_stage.proofs.TimeOuts.{period_positive, clocks_at_every_multipl
 use Rattle.ctc_channel.specs.declared.channel.Channel.{Channel}
 use Rattle.ctc.specs.declared.chip.Ctc.{Ctc}
 use Rattle.ctc_channel.specs.ControlWords.{divisor_of}
-use Rattle.ctc_channel.specs.Channels.{with_stage, counts_clocks, channel_clocked, clock_raises}
+use Rattle.ctc_channel.specs.Channels.{with_stage, channel_clocked, clock_raises}
 use Rattle.ctc.specs.Numbers.{channel_of}
 use Rattle.ctc.specs.Chip.{channel_at, clocked_at, ctc_clocked, written}
-use Rattle.ctc.specs.Runs.{after, requests, TimersRequestOnTime}
+use Rattle.ctc.specs.Runs.{requests, TimersRequestOnTime}
 use Rattle.ctc.proofs.Requests.{Seen, seen_became, seen_after, begun, seen_started}
 
 -- the channel, and whether it requests, when the clock has gone to the channels below j

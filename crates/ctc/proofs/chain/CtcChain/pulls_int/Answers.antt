@@ -1,5 +1,7 @@
-use Rattle.ctc.proofs.OnTheChain.{pulls_is}
+use Rattle.card.specs.Meaning.{pulls, asks}
+use Rattle.ctc.specs.FourRanks.{highest_of_four}
 use Rattle.ctc.proofs.chain.CtcChain.pulls_int.Goals as goal
 
 pub returns : goal.returns
-returns c = pulls_is _ _ _ c.asks.ensures
+unfolding pulls asks
+returns c = cc (highest_of_four c.args.self.now.waiting, highest_of_four c.args.self.now.service)

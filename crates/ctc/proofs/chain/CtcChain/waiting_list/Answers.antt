@@ -1,9 +1,6 @@
-use Rattle.ctc.proofs.OnTheChain.{list_answer_is, listed_is}
+use Rattle.ctc.specs.Chip.{vector_at}
+use Rattle.ctc.specs.FourRanks.{how_many_of_four, from_the_top_of_four}
 use Rattle.ctc.proofs.chain.CtcChain.waiting_list.Goals as goal
 
 pub returns : goal.returns
-returns c =
-    record {
-      answer = list_answer_is c.args.self.now _ c.waiting_ranks.ensures _ _ c.list_vectors.ensures.answer;
-      bytes = listed_is c.args.self.now _ c.waiting_ranks.ensures _ _ c.list_vectors.ensures.bytes;
-    }
+returns c = rw (← how_many_of_four c.args.self.now.waiting, ← from_the_top_of_four c.args.self.now.waiting (vector_at c.args.self.now)) (rw c.waiting_ranks.ensures at c.list_vectors.ensures)
