@@ -5,8 +5,8 @@ use Rattle.ctc.proofs.chain.CtcChain.acknowledge.Goals as goal
 
 pub returns-in_err-rank : goal.returns-in_err-rank
 unfolding rank_acknowledged vector_answered vector_of pulls asks
-returns-in_err-rank c = grind (arith, highest_of_four c.args.self.now.waiting, highest_of_four c.args.self.now.service)
+returns-in_err-rank c = grind (arith, highest_of_four)
 
 pub returns : goal.returns
 unfolding rank_acknowledged vector_answered vector_of pulls asks
-returns c = grind (arith, highest_of_four c.args.self.now.waiting, highest_of_four c.args.self.now.service)
+returns c = grind (arith, highest_of_four)
