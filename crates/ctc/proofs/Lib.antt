@@ -1,4 +1,3 @@
 pub mod Requests
-pub mod Clocks
 pub mod Timers
 pub mod Counters
