@@ -22,8 +22,10 @@ pub all_put : (v : ℕ → ℕ) (all buffer : List ℕ) (i : ℕ) (left now : Li
     → now ≡ map v all ++ drop (length all) buffer
 all_put v all buffer i left now h none fits =
     let long : length (map v all) ≡ length all = length-map all v in
-    sym (ap (λ l. sets now i (map v l)) none) ∙ h.put ∙ sets-eq (map v all) buffer 0 (omega arith)
-    ∙ ap (λ n. map v all ++ drop n buffer) (zero-add (length (map v all)) ∙ long)
+    let e : sets now i (map v left) ≡ now = rw none in
+    let p : sets now i (map v left) ≡ sets buffer 0 (map v all) = h.put in
+    let q : sets buffer 0 (map v all) ≡ map v all ++ drop (0 + length (map v all)) buffer = sets-eq (map v all) buffer 0 (omega arith) in
+    cc (zero-add (length all))
 
 -- the list of the vectors of a set, by the answer that it gets
 module _ (v : ℕ → ℕ) (s : RankSet) (buffer : List ℕ) where
