@@ -1,8 +1,7 @@
 -- Laws of meanings that the proofs of cards share.
-use Rattle.std.proofs.Common.{◌≡◌, ℕ, ◌<◌, Bool, true, false, cond, ◌&&◌, Some, None, Option, is_some, refl, arith}
-use Rattle.std.proofs.lemmas.Bool.{cond-false}
+use Rattle.std.proofs.Common.{◌≡◌, ℕ, ◌<◌, Bool, true, false, ◌&&◌, Some, None, refl, arith}
 use Rattle.ranks.proofs.Sets.{highest_in}
-use Rattle.card.specs.Meaning.{Meaning, highest_waiting, highest_in_service, serves, pulls, rank_acknowledged, rank_returned}
+use Rattle.card.specs.Meaning.{Meaning, serves, pulls, rank_acknowledged, rank_returned}
 use Rattle.card.specs.Sentences.{KeptOnTheBus}
 
 -- an acknowledge takes a rank that waits
