@@ -7,7 +7,7 @@ use Rattle.card.specs.Sentences.{KeptOnTheBus}
 -- an acknowledge takes a rank that waits
 pub acknowledged_waits : (iei : Bool) (m : Meaning) (r : ℕ) → Some r ≡ rank_acknowledged iei m → (r < m.size) × (m.waiting r ≡ true)
 unfolding rank_acknowledged
-acknowledged_waits iei m r e = grind (arith, highest_in m.size m.waiting r)
+acknowledged_waits iei m r e = grind (arith, highest_in)
 
 pub no_pull_takes_none : (iei : Bool) (m : Meaning) → pulls iei m ≡ false → rank_acknowledged iei m ≡ None
 unfolding rank_acknowledged
