@@ -1,9 +1,9 @@
 -- Following one channel of a CTC, and its request, through calls.
-use Rattle.std.proofs.Common.{◌≡◌, ℕ, zero, suc, ◌+◌, ◌%◌, ◌<◌, Bool, true, false, cond, ◌&&◌, ◌||◌, eqb, leb, length, refl, ap, ◌∙◌, mod-eq_of_lt, arith}
+use Rattle.std.proofs.Common.{◌≡◌, ℕ, zero, suc, ◌+◌, ◌%◌, ◌<◌, Bool, true, false, cond, ◌&&◌, ◌||◌, eqb, leb, length, refl, ◌∙◌, mod-eq_of_lt, arith}
 use native.Mathlib.Nat.{mod_self}
 use Rattle.std.proofs.lemmas.List.{length-set, get_or-set_same, get_or-set_other}
 use Rattle.std.proofs.lemmas.Bool.Decides.{nat_tests}
-use Rattle.std.proofs.lemmas.Bool.{eq-eqb, lt-ltb}
+use Rattle.std.proofs.lemmas.Bool.{eq-eqb}
 use Rattle.ranks.specs.declared.set.RankSet.{RankSet}
 use Rattle.ranks.specs.Ranks.{adding}
 use Rattle.ranks.specs.RankSets.{ranks, inserted, intersected}
@@ -27,7 +27,7 @@ pub record Seen (port : ℕ) (c : Ctc) (x : Channel) (w : Bool) : Type 0 where
 
 rank_raised : (j k : ℕ) (w : RankSet) → j < 4 → ranks (intersected (inserted (rank_of j) w) four_ranks) (rank_of k) ≡ (eqb (rank_of k) (rank_of j) || ranks (intersected w four_ranks) (rank_of k))
 unfolding adding
-rank_raised j k w h = ap (λ p. p (rank_of k)) (inserted_in_both (rank_of j) w four_ranks (omega arith) (four (rank_of j) ∙ lt-ltb (rank_of j) 4 (omega arith)))
+rank_raised j k w h = rw (inserted_in_both (rank_of j) w four_ranks (omega arith) (grind (arith, nat_tests, four (rank_of j))))
 
 -- channel j changes
 pub seen_became : (port j : ℕ) {c : Ctc} {x : Channel} {w : Bool} → Seen port c x w → j < 4 → (y : Channel) (raises : Bool)
