@@ -34,6 +34,7 @@ module _ (g : Control) (counter : g.counter_mode ≡ true) where
       let acts = pulse_acts a level w s (ap (λ x. x.control.rising_edge) h.channel) in
       rw (acts.0, acts.1) at (seen_line port _ (seen_line port c h (not a)) a)
 
+  -- the level of its line after n pulses
   level_after : Bool → ℕ → Bool
   level_after level zero = level
   level_after level (suc n) = g.rising_edge

@@ -21,6 +21,7 @@ Clocked port j x w c = let t : Bool = ltb (channel_of port) j in Seen port c (co
 one_more : (port j : ℕ) (x : Channel) (w : Bool) (c : Ctc) → j < 4 → Clocked port j x w c → Clocked port (suc j) x w (clocked_at j c)
 one_more port j x w c h s = grind (arith, nat_tests, seen_became port j s h (channel_clocked (channel_at j c)) (clock_raises (channel_at j c)))
 
+-- a clock of the card is a clock of each channel
 seen_clock : (port : ℕ) (c : Ctc) (x : Channel) (w : Bool) → Seen port c x w → Seen port (ctc_clocked c) (channel_clocked x) (clock_raises x || w)
 seen_clock port c x w s =
     rw (lt-ltb (channel_of port) 4 (omega arith))
