@@ -1,5 +1,5 @@
 -- Following one channel of a CTC, and its request, through calls.
-use Rattle.std.proofs.Common.{◌≡◌, ℕ, zero, suc, ◌+◌, ◌%◌, ◌<◌, Bool, true, false, cond, ◌&&◌, ◌||◌, eqb, leb, length, refl, ◌∙◌, mod-eq_of_lt, arith}
+use Rattle.std.proofs.Common.{◌≡◌, ℕ, zero, suc, ◌+◌, ◌%◌, ◌<◌, Bool, true, false, cond, ◌&&◌, ◌||◌, eqb, leb, length, refl, mod-eq_of_lt, arith}
 use native.Mathlib.Nat.{mod_self}
 use Rattle.std.proofs.lemmas.List.{length-set, get_or-set_same, get_or-set_other}
 use Rattle.std.proofs.lemmas.Bool.Decides.{nat_tests}
@@ -12,7 +12,6 @@ use Rattle.count_stage.specs.Stage.{started}
 use Rattle.ctc_channel.specs.declared.channel.Phase.TheVariants.{Running}
 use Rattle.ctc_channel.specs.declared.channel.Channel.{Channel}
 use Rattle.ctc.specs.declared.chip.Ctc.{Ctc}
-use Rattle.ctc_channel.specs.Channels.{new_channel}
 use Rattle.ctc.specs.Numbers.{channel_of, rank_of}
 use Rattle.ctc.specs.Chip.{takes, channel_at, four_ranks, channel_became, written}
 use Rattle.ctc.specs.Runs.{after, requests, Starts}
@@ -32,14 +31,7 @@ rank_raised j k w h = rw (inserted_in_both (rank_of j) w four_ranks (omega arith
 -- channel j changes
 pub seen_became : (port j : ℕ) {c : Ctc} {x : Channel} {w : Bool} → Seen port c x w → j < 4 → (y : Channel) (raises : Bool)
     → Seen port (channel_became j y raises c) (cond (eqb (channel_of port) j) y x) (cond (eqb (channel_of port) j) (raises || w) w)
-seen_became port j {c} {x} {w} s h y raises =
-    let k : ℕ = channel_of port in
-    record {
-      taken = s.taken;
-      whole = length-set c.channels j y ∙ s.whole;
-      channel = grind (arith, nat_tests, s, get_or-set_same c.channels j y new_channel, get_or-set_other c.channels j k y new_channel);
-      requested = grind (arith, nat_tests, s, rank_raised j k c.waiting h);
-    }
+seen_became port j s h y raises = grind (arith, nat_tests, length-set {A = Channel}, get_or-set_same {A = Channel}, get_or-set_other {A = Channel}, rank_raised)
 
 -- the port's channel changes
 pub seen_there : (port : ℕ) {c : Ctc} {x : Channel} {w : Bool} → Seen port c x w → (y : Channel) (raises : Bool) → Seen port (channel_became (channel_of port) y raises c) y (raises || w)
@@ -62,7 +54,4 @@ abbrev pub begun : ℕ → Channel → Channel
 begun t x = record { stage = started t; control = x.control; phase = Running; awaits = false; level = x.level }
 
 pub seen_started : (c : Ctc) (port t : ℕ) → Starts c port t → Seen port (written c port t) (begun t (channel_at (channel_of port) c)) (requests (channel_of port) c)
-seen_started c port t starts =
-    let s : Seen port c (channel_at (channel_of port) c) (requests (channel_of port) c) =
-    record { taken = starts.takes_port; whole = starts.four_channels; channel = refl; requested = refl } in
-    rw (starts.takes_port, starts.awaited, starts.stopped, starts.not_armed) (seen_there port s (begun t (channel_at (channel_of port) c)) false)
+seen_started c port t starts = grind (arith, length-set {A = Channel}, get_or-set_same {A = Channel})
