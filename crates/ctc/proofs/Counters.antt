@@ -1,6 +1,6 @@
 -- A channel that a constant starts in counter mode requests on time.
 use Rattle.std.proofs.Common.{◌≡◌, ℕ, zero, suc, Bool, true, false, not, ◌&&◌, ◌||◌, ap, arith}
-use Rattle.std.proofs.lemmas.Bool.{le-ltb}
+use Rattle.std.proofs.lemmas.Bool.Decides.{nat_tests}
 use Rattle.count_stage.specs.declared.CountStage.{CountStage}
 use Rattle.count_stage.specs.Stage.{count_of, started, stepped, step_times_out}
 use Rattle.count_stage.specs.Runs.{after_steps}
@@ -13,10 +13,10 @@ use Rattle.ctc_channel.specs.Channels.{line_changed, line_raises}
 use Rattle.ctc.specs.Numbers.{channel_of}
 use Rattle.ctc.specs.Chip.{channel_at, line_set, written}
 use Rattle.ctc.specs.Runs.{pulsed, control_at, requests, CountersRequestOnTime}
-use Rattle.ctc.proofs.Requests.{Seen, seen_there, seen_after, seen_started}
+use Rattle.ctc.proofs.Requests.{Seen, seen_became, seen_after, seen_started}
 
 seen_line : (port : ℕ) (c : Ctc) {x : Channel} {w : Bool} → Seen port c x w → (high : Bool) → Seen port (line_set c port (channel_of port) high) (line_changed high x) (line_raises high x || w)
-seen_line port c {x} {w} s high = rw (s.taken, le-ltb 3 (channel_of port) (omega arith), s.channel) (seen_there port s (line_changed high x) (line_raises high x))
+seen_line port c {x} s high = grind (arith, nat_tests, seen_became port (channel_of port) s (omega arith) (line_changed high x) (line_raises high x))
 
 -- a channel that runs in counter mode
 module _ (g : Control) (counter : g.counter_mode ≡ true) where

@@ -1,9 +1,8 @@
 -- Following one channel of a CTC, and its request, through calls.
-use Rattle.std.proofs.Common.{◌≡◌, ℕ, zero, suc, ◌+◌, ◌%◌, ◌<◌, Bool, true, false, cond, ◌&&◌, ◌||◌, eqb, leb, length, refl, mod-eq_of_lt, arith}
+use Rattle.std.proofs.Common.{◌≡◌, ℕ, zero, suc, ◌+◌, ◌%◌, ◌<◌, Bool, true, false, cond, ◌&&◌, ◌||◌, eqb, leb, length, mod-eq_of_lt, arith}
 use native.Mathlib.Nat.{mod_self}
 use Rattle.std.proofs.lemmas.List.{length-set, get_or-set_same, get_or-set_other}
 use Rattle.std.proofs.lemmas.Bool.Decides.{nat_tests}
-use Rattle.std.proofs.lemmas.Bool.{eq-eqb}
 use Rattle.ranks.specs.declared.set.RankSet.{RankSet}
 use Rattle.ranks.specs.Ranks.{adding}
 use Rattle.ranks.specs.RankSets.{ranks, inserted, intersected}
@@ -32,10 +31,6 @@ rank_raised j k w h = rw (inserted_in_both (rank_of j) w four_ranks (omega arith
 pub seen_became : (port j : ℕ) {c : Ctc} {x : Channel} {w : Bool} → Seen port c x w → j < 4 → (y : Channel) (raises : Bool)
     → Seen port (channel_became j y raises c) (cond (eqb (channel_of port) j) y x) (cond (eqb (channel_of port) j) (raises || w) w)
 seen_became port j s h y raises = grind (arith, nat_tests, length-set {A = Channel}, get_or-set_same {A = Channel}, get_or-set_other {A = Channel}, rank_raised)
-
--- the port's channel changes
-pub seen_there : (port : ℕ) {c : Ctc} {x : Channel} {w : Bool} → Seen port c x w → (y : Channel) (raises : Bool) → Seen port (channel_became (channel_of port) y raises c) y (raises || w)
-seen_there port s y raises = rw (eq-eqb (channel_of port) _ refl) at (seen_became port (channel_of port) s (omega arith) y raises)
 
 -- rounds of calls: round n, counted from 0, raises the request where n + 1 is a multiple of P, if i is set
 module _ (port P : ℕ) (i : Bool) (positive : 0 < P) (next : Ctc → Ctc) (channel : ℕ → Channel)
