@@ -24,15 +24,11 @@ module _ (g : Control) (counter : g.counter_mode ≡ true) where
   at s level = record { stage = s; control = g; phase = Running; awaits = false; level = level }
 
   -- of the two halves of a pulse the second acts alone
-  pulse_acts : (a level w : Bool) (s : CountStage) → a ≡ g.rising_edge → (line_changed a (line_changed (not a) (at s level)) ≡ at (stepped s) g.rising_edge)
-      × ((line_raises a (line_changed (not a) (at s level)) || (line_raises (not a) (at s level) || w)) ≡ ((step_times_out s && g.interrupt) || w))
-  pulse_acts a level w s e = grind arith
-
   seen_pulse : (port : ℕ) (c : Ctc) (s : CountStage) (level w : Bool) → Seen port c (at s level) w → Seen port (pulsed port c) (at (stepped s) g.rising_edge) ((step_times_out s && g.interrupt) || w)
   seen_pulse port c s level w h =
       let a : Bool = (control_at port c).rising_edge in
-      let acts = pulse_acts a level w s (ap (λ x. x.control.rising_edge) h.channel) in
-      rw (acts.0, acts.1) at (seen_line port _ (seen_line port c h (not a)) a)
+      let e : a ≡ g.rising_edge = ap (λ x. x.control.rising_edge) h.channel in
+      grind (arith, seen_line port _ (seen_line port c h (not a)) a)
 
   -- the level of its line after n pulses
   level_after : Bool → ℕ → Bool
