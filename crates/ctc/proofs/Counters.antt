@@ -1,5 +1,5 @@
 -- A channel that a constant starts in counter mode requests on time.
-use Rattle.std.proofs.Common.{◌≡◌, ℕ, zero, suc, Bool, true, false, not, ◌&&◌, ◌||◌, ap, arith}
+use Rattle.std.proofs.Common.{◌≡◌, ℕ, zero, suc, Bool, true, false, not, ◌&&◌, ◌||◌, arith}
 use Rattle.std.proofs.lemmas.Bool.Decides.{nat_tests}
 use Rattle.count_stage.specs.declared.CountStage.{CountStage}
 use Rattle.count_stage.specs.Stage.{count_of, started, stepped, step_times_out}
@@ -27,7 +27,6 @@ module _ (g : Control) (counter : g.counter_mode ≡ true) where
   seen_pulse : (port : ℕ) (c : Ctc) (s : CountStage) (level w : Bool) → Seen port c (at s level) w → Seen port (pulsed port c) (at (stepped s) g.rising_edge) ((step_times_out s && g.interrupt) || w)
   seen_pulse port c s level w h =
       let a : Bool = (control_at port c).rising_edge in
-      let e : a ≡ g.rising_edge = ap (λ x. x.control.rising_edge) h.channel in
       grind (arith, seen_line port _ (seen_line port c h (not a)) a)
 
   -- the level of its line after n pulses

@@ -35,14 +35,10 @@ seen_became port j s h y raises = grind (arith, nat_tests, length-set {A = Chann
 -- rounds of calls: round n, counted from 0, raises the request where n + 1 is a multiple of P, if i is set
 module _ (port P : ℕ) (i : Bool) (positive : 0 < P) (next : Ctc → Ctc) (channel : ℕ → Channel)
     (round : (n : ℕ) (c : Ctc) (w : Bool) → Seen port c (channel n) w → Seen port (next c) (channel (suc n)) ((eqb ((n + 1) % P) 0 && i) || w)) where
-  -- the first multiple of P is P
-  next_request : (w : Bool) (n : ℕ) → ((eqb ((n + 1) % P) 0 && i) || (w || (i && leb P n))) ≡ (w || (i && leb P (suc n)))
-  next_request w n = grind (arith, nat_tests, mod-eq_of_lt, mod_self P)
-
   pub seen_after : (c : Ctc) (w : Bool) → Seen port c (channel 0) w → (n : ℕ) → Seen port (after n next c) (channel n) (w || (i && leb P n))
   unfolding after
   seen_after c w s zero = grind (arith, nat_tests)
-  seen_after c w s (suc n) = rw (← next_request w n) (round n (after n next c) (w || (i && leb P n)) (seen_after c w s n))
+  seen_after c w s (suc n) = grind (arith, nat_tests, mod-eq_of_lt, mod_self P, round n (after n next c) (w || (i && leb P n)) (seen_after c w s n))
 
 -- a constant that sets its channel running
 abbrev pub begun : ℕ → Channel → Channel
