@@ -48,7 +48,8 @@ pub trait Chain {
         ensures { result ≡ min (waiting_number (meaning self.now)) 65535 };
 
     // Puts the vector of each waiting request at the front of the buffer and answers how many they are, or refuses. The
-    // memory is the caller's, and no Vec, since a card allocates none.
+    // memory is the caller's, and no Vec, since a card allocates none; the answer is a number, which whatever holds the card can
+    // hand on.
     fn waiting_list(&self, buffer: &mut [u8]) -> Result<u16, Refusal>
         ensures answer { result ≡ list_answer (waiting_number (meaning self.now)) buffer.old }
         ensures bytes { buffer.new ≡ listed_into (rules.waiting_bytes self.now) buffer.old };
@@ -58,7 +59,8 @@ pub trait Chain {
 }
 
 // That service only shrinks stands on each call: it ties two states, which no invariant of the type can, and a caller finds
-// it where the call is.
+// it where the call is. A port with its byte, or with line and level, is no struct: each call would make it only to have it
+// taken apart.
 pub trait Bus: Chain {
     fn write(&mut self, port: u8, byte: u8) -> Result<(), Refusal>
         ensures answer { result ≡ answered ((Self.Chain.meaning self.old).write_refusal port byte) tt }

@@ -9,7 +9,8 @@ use crate::refusals::Refusal;
 use ranks::RankSet;
 
 // What tells the vector of each rank. It is no closure: a function that takes one has to require that it may be called, and
-// no public call here requires anything.
+// no public call here requires anything. A struct that holds a closure and a ghost field that it may be called would be a type
+// in place of this trait, and no plainer.
 pub trait Vectors {
     ghost vectors: { Self → ℕ → ℕ };
 

@@ -1,5 +1,3 @@
-pub mod OnTheChain
 pub mod Requests
-pub mod Clocks
 pub mod Timers
 pub mod Counters

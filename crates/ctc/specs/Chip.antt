@@ -75,7 +75,7 @@ ctc_reset c =
 abbrev pub channel_became : ℕ → Channel → Bool → Ctc → Ctc
 channel_became k x raises c = with_channel k x (cond raises (inserted (rank_of k) c.waiting) c.waiting) c
 
--- a step of channel k, by what it may answer and leave of the channel: the request is raised if it answers so
+-- a step of channel k: it answers, and leaves of the channel, what 'step' allows, and the request is raised if the answer is true
 abbrev pub StepsChannel : (Channel → Bool → Channel → Type 0) → ℕ → Ctc → Ctc → Type 0
 StepsChannel step k c d = (raises : Bool) × (x : Channel) × step (channel_at k c) raises x × (d ≡ channel_became k x raises c)
 
@@ -112,16 +112,18 @@ written_as Constant k byte c = with_channel k (constant_taken byte (channel_at k
 written_as ControlWord k byte c = control_set k byte c
 written_as VectorHead k byte c = record { port = c.port; vector = byte; channels = c.channels; waiting = c.waiting; service = c.service }
 
+-- a byte that is nothing to the channel leaves the card
 abbrev pub written_if_any : Result Role Refusal → ℕ → ℕ → Ctc → Ctc
 written_if_any (Ok role) k byte c = written_as role k byte c
 written_if_any (Err why) k byte c = c
 
-abbrev pub refused_if_none : Result Role Refusal → Option Refusal
-refused_if_none (Ok role) = None
-refused_if_none (Err why) = Some why
+-- and is refused so
+abbrev pub why_refused : Result Role Refusal → Option Refusal
+why_refused (Ok role) = None
+why_refused (Err why) = Some why
 
 abbrev pub write_refusal : Ctc → ℕ → ℕ → Option Refusal
-write_refusal c port byte = cond (takes c port) (refused_if_none (role_in c port byte)) (Some PortNotTaken)
+write_refusal c port byte = cond (takes c port) (why_refused (role_in c port byte)) (Some PortNotTaken)
 
 abbrev pub written : Ctc → ℕ → ℕ → Ctc
 written c port byte = cond (takes c port) (written_if_any (role_in c port byte) (channel_of port) byte c) c

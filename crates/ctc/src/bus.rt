@@ -1,4 +1,5 @@
-// The CTC on the bus.
+// The CTC on the bus. Each call's work is a function of `chip`, with one definition as its contract; here the trait's clauses,
+// several to a call, are proved of it once.
 use crate::chip::Ctc;
 use card::{Bus, Refusal};
 

@@ -2,7 +2,7 @@
 ghost use Rattle.std.specs.Prelude.{◌≡◌, ◌&&◌, if◌then◌else◌, None};
 ghost use Rattle.ranks.specs.Ranks.{above};
 ghost use Rattle.card.specs.Refusals.{answered};
-ghost use Rattle.ctc.specs.Chip.{new_ctc, takes, waiting_set, service_set, top_waiting, top_in_service, vector_at, raised, StepsChannel, port_refusal, with_taken, with_ended, ctc_reset, ctc_clocked, channel_at, role_of, control_set, written, write_refusal, read_refusal, counter_at, line_set, line_refusal};
+ghost use Rattle.ctc.specs.Chip.{new_ctc, takes, four_ranks, waiting_set, service_set, top_waiting, top_in_service, vector_at, raised, StepsChannel, port_refusal, with_taken, with_ended, ctc_reset, ctc_clocked, channel_at, role_of, control_set, written, write_refusal, read_refusal, counter_at, line_set, line_refusal};
 ghost use Rattle.std.specs.Fn.{FnOnceReturnsAtMut};
 ghost use Rattle.ctc.specs.Runs.{TimersRequestOnTime, CountersRequestOnTime};
 
@@ -40,12 +40,7 @@ impl Ctc {
         Ctc {
             port,
             vector: 0,
-            channels: [
-                Channel::new(),
-                Channel::new(),
-                Channel::new(),
-                Channel::new(),
-            ],
+            channels: [Channel::new(); 4],
             waiting: RankSet::empty(),
             service: RankSet::empty(),
         }
@@ -61,13 +56,13 @@ impl Ctc {
     pub(crate) fn waiting_ranks(&self) -> RankSet
         ensures { result ≡ waiting_set self.now }
     {
-        self.waiting.intersection(RankSet::from(15))
+        self.waiting.intersection(four_ranks())
     }
 
     pub(crate) fn service_ranks(&self) -> RankSet
         ensures { result ≡ service_set self.now }
     {
-        self.service.intersection(RankSet::from(15))
+        self.service.intersection(four_ranks())
     }
 
     // Whether a waiting rank is above every rank in service.
@@ -206,7 +201,8 @@ impl Ctc {
         ensures { result ≡ answered (read_refusal self.now port) (counter_at self.now port) }
     {
         self.check_port(port)?;
-        Ok(self.channels[ChannelNumber::of_port(port).index()].counter())
+        let channel = ChannelNumber::of_port(port);
+        Ok(self.channels[channel.index()].counter())
     }
 
     pub(crate) fn set_line(&mut self, port: u8, line: u8, high: bool) -> Result<(), Refusal>
@@ -218,4 +214,11 @@ impl Ctc {
         self.step_channel(channel, |c| c.change_line(high));
         Ok(())
     }
+}
+
+// Ranks 0 to 3.
+fn four_ranks() -> RankSet
+    ensures { result ≡ four_ranks }
+{
+    RankSet::from(0b1111)
 }

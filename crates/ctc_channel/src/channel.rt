@@ -30,7 +30,7 @@ impl Channel {
     {
         Channel {
             stage: CountStage::new(),
-            control: Control::cleared(),
+            control: Control::default(),
             phase: Phase::Stopped,
             awaits: false,
             level: false,
@@ -41,7 +41,7 @@ impl Channel {
         ensures { self.new ≡ channel_reset self.old }
     {
         self.stage.clear_prescaler();
-        self.control = Control::cleared();
+        self.control = Control::default();
         self.phase = Phase::Stopped;
         self.awaits = false;
     }

@@ -1,11 +1,11 @@
 // The control word of a channel.
 ghost use Rattle.std.specs.Prelude.{◌≡◌, ◌<◌};
 ghost use Rattle.ranks.specs.Ranks.{bit};
-ghost use Rattle.ctc_channel.specs.ControlWords.{is_control_word, stops, constant_follows, cleared, control_of, divisor_of, prescaler_restarts, starts_armed, edge_acts};
+ghost use Rattle.ctc_channel.specs.ControlWords.{is_control_word, stops, constant_follows, control_of, divisor_of, prescaler_restarts, starts_armed, edge_acts};
 
 // The bits of a control word that a channel keeps, as bools: an enum for the two values of a bit would only add a conversion
 // and a comparison, here and in the definitions.
-#[derive(Clone, Copy)]
+#[derive(Clone, Copy, Default)]
 pub struct Control {
     interrupt: bool,
     // Counter mode, in place of timer mode.
@@ -33,18 +33,6 @@ impl From<u8> for Control {
 }
 
 impl Control {
-    pub(crate) fn cleared() -> Control
-        ensures { result ≡ cleared }
-    {
-        Control {
-            interrupt: false,
-            counter_mode: false,
-            by_256: false,
-            rising_edge: false,
-            start_on_trigger: false,
-        }
-    }
-
     pub(crate) fn interrupt(self) -> bool
         ensures { result ≡ self.interrupt }
     {

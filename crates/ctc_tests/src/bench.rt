@@ -47,7 +47,7 @@ impl<'a, R: Abort> Bench<'a, R> {
         assert_eq!(self.rt; self.card.change_line(port, line, true), Err(refusal));
     }
 
-    pub fn int(&mut self, pulled: bool) {
+    pub fn int(&self, pulled: bool) {
         assert_eq!(self.rt; self.card.pulls_int(true), pulled);
     }
 
@@ -63,7 +63,7 @@ impl<'a, R: Abort> Bench<'a, R> {
         self.card.reset();
     }
 
-    pub fn waiting(&mut self, number: u16) {
+    pub fn waiting(&self, number: u16) {
         assert_eq!(self.rt; self.card.waiting_count(), number);
     }
 }

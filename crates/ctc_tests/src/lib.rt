@@ -1,4 +1,4 @@
-// Examples of a CTC, most as tables of steps.
+// Examples of a CTC, most as calls of a bench.
 #![tactic(auto)]
 
 #[cfg(test)]

@@ -1,5 +1,5 @@
 -- Laws of sets of ranks.
-use Rattle.std.proofs.Common.{◌≡◌, ℕ, zero, suc, ◌+◌, ◌<◌, ◌≤◌, Bool, true, false, [], ◌∷◌, length, map, Some, None, refl, suc-add, zero-add, arith}
+use Rattle.std.proofs.Common.{◌≡◌, ℕ, zero, suc, ◌<◌, Bool, true, false, [], ◌∷◌, length, map, Some, None, refl, arith}
 use Rattle.std.proofs.lemmas.Bool.Decides.{nat_tests}
 use Rattle.ranks.specs.Ranks.{removing, highest, how_many, from_the_top}
 
@@ -20,26 +20,11 @@ unfolding from_the_top
 from_the_top_agrees zero p q v h = refl
 from_the_top_agrees (suc n) p q v h = grind (arith, from_the_top_agrees n p q v)
 
--- a set that ends below n
-module _ (p : ℕ → Bool) (n : ℕ) (ends : (k : ℕ) → n ≤ k → p k ≡ false) where
-  pub highest_wider : (d : ℕ) → highest (d + n) p ≡ highest n p
-  unfolding highest
-  highest_wider zero = rw (zero-add n)
-  highest_wider (suc d) = rw (suc-add d n, ends (d + n) (omega arith)) (highest_wider d)
-
-  pub from_the_top_wider : (v : ℕ → ℕ) (d : ℕ) → from_the_top (d + n) p v ≡ from_the_top n p v
-  unfolding from_the_top
-  from_the_top_wider v zero = rw (zero-add n)
-  from_the_top_wider v (suc d) = rw (suc-add d n, ends (d + n) (omega arith)) (from_the_top_wider v d)
-
 -- the count is the length of the list
 pub from_the_top_length : (n : ℕ) (p : ℕ → Bool) (v : ℕ → ℕ) → length (from_the_top n p v) ≡ how_many n p
 unfolding from_the_top how_many
 from_the_top_length zero p v = refl
 from_the_top_length (suc n) p v = grind (arith, from_the_top_length n p v)
-
-pub how_many_wider : (p : ℕ → Bool) (n : ℕ) → ((k : ℕ) → n ≤ k → p k ≡ false) → (d : ℕ) → how_many (d + n) p ≡ how_many n p
-how_many_wider p n ends d = cc (from_the_top_length (d + n) p (λ k. k), from_the_top_length n p (λ k. k), from_the_top_wider p n ends (λ k. k) d)
 
 pub from_the_top_none : (n : ℕ) (p : ℕ → Bool) (v : ℕ → ℕ) → None ≡ highest n p → from_the_top n p v ≡ []
 unfolding from_the_top highest

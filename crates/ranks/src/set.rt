@@ -9,6 +9,7 @@ pub struct RankSet {
     bits: u16,
 }
 
+// The set that has these bits.
 impl From<u16> for RankSet {
     ghost from_gives = { λ b s. s ≡ record { bits = b } };
 
@@ -30,6 +31,8 @@ impl RankSet {
         self.bits == 0
     }
 
+    // By leading zeros, as the project has it, and not by a logarithm. `as` is proved to lose nothing, here and in `len`; a
+    // `try_from` would add a failure that cannot come.
     pub fn highest(self) -> Option<u8>
         ensures { result ≡ highest 16 (ranks self) }
     {

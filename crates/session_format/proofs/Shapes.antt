@@ -1,6 +1,9 @@
--- What bytes begin with, as a slice pattern takes them apart, and how many calls they hold.
-use Rattle.std.proofs.Common.{◌≡◌, ℕ, ◌+◌, ◌-◌, ◌*◌, ◌<◌, ◌≤◌, true, ◌&&◌, List, [], ◌∷◌, ◌++◌, length, get_or, take, drop, is_ok, Some, None, Ok, Err, Result, refl, ap, ◌∙◌, arith}
+-- What bytes begin with, as a slice pattern takes them apart, how many calls they hold, and what their chunks of three say.
+use Rattle.std.proofs.Common.{◌≡◌, ℕ, ◌+◌, ◌-◌, ◌*◌, ◌/◌, ◌%◌, ◌<◌, ◌≤◌, Bool, true, ◌&&◌, ◌==◌, zero, suc, List, [], ◌∷◌, ◌++◌, length, get_or, take, drop, is_ok, Some, None, Ok, Err, Result, refl, ap, ◌∙◌, arith}
+use Rattle.std.proofs.Math.Bool.{and_assoc, and_comm}
+use Rattle.std.specs.List.{list_all}
 use Rattle.std.specs.Result.{result_ok}
+use Rattle.std.specs.Simd.{first_chunks}
 use Rattle.std.proofs.lemmas.Bool.Decides.{nat_tests}
 use Rattle.std.proofs.lemmas.List.{take_rest}
 use Rattle.session_format.specs.declared.encoding.Call.{Call}
@@ -63,3 +66,24 @@ length_formed [] formed = refl
 length_formed (letter ∷ []) formed = cc
 length_formed (letter ∷ first ∷ []) formed = cc
 length_formed (letter ∷ first ∷ second ∷ rest) formed = length_more (call_of letter first second) rest formed (length_formed rest) ∙ omega arith
+
+-- whether these are the three bytes of a call
+abbrev pub is_call : List ℕ → Bool
+is_call bytes = is_ok (call_of_bytes bytes)
+
+formed_in_chunks : (n left : ℕ) (bytes : List ℕ) → length bytes ≡ n * 3 + left → left < 3
+    → (list_all is_call (first_chunks 3 n bytes) && left == 0) ≡ well_formed bytes
+unfolding well_formed
+formed_in_chunks zero left [] e few = grind (arith, nat_tests)
+formed_in_chunks zero left (letter ∷ []) e few = grind (arith, nat_tests)
+formed_in_chunks zero left (letter ∷ first ∷ []) e few = grind (arith, nat_tests)
+formed_in_chunks (suc n) left (letter ∷ first ∷ second ∷ rest) e few =
+    let one = is_ok (call_of letter first second) in
+    and_assoc one _ _ ∙ ap (λ b. one && b) (formed_in_chunks n left rest (omega arith) few)
+formed_in_chunks _ _ _ e few = absurd (omega arith)
+
+-- Bytes are well formed if no byte is left after their chunks of three and each chunk is a call.
+pub formed_by_chunks : (none : Bool) (bytes left : List ℕ) (chunks : List (List ℕ)) → none ≡ (length left == 0)
+    → chunks ≡ first_chunks 3 (length bytes / 3) bytes → length left ≡ length bytes % 3 → (none && list_all is_call chunks) ≡ well_formed bytes
+formed_by_chunks none bytes left chunks empty front back =
+    and_comm none (list_all is_call chunks) ∙ rw (empty, front) (formed_in_chunks (length bytes / 3) (length left) bytes (omega arith) (omega arith))

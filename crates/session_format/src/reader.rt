@@ -4,8 +4,9 @@ ghost use Rattle.session_format.specs.Reading.{session_of, counted, well_formed}
 ghost use Rattle.session_format.specs.Laws.{Holdable, ReadsWhatIsWritten, WritesWhatWasRead, FrontDecides};
 ghost use Rattle.session_format.specs.Views.{calls_left, answer};
 
+use crate::encoding::Call;
 use crate::refusals::FormatRefusal;
-use crate::view::{Calls, split_first};
+use crate::view::Calls;
 
 // The most calls that a session holds.
 const MOST_CALLS: u16 = 4096;
@@ -52,9 +53,6 @@ fn read_calls(count: u16, bytes: &[u8]) -> Result<Calls<'_>, FormatRefusal>
 fn all_well_formed(bytes: &[u8]) -> bool
     ensures { result ≡ well_formed bytes.now }
 {
-    let mut left = bytes;
-    while let Some((_, rest)) = split_first(left) {
-        left = rest;
-    }
-    left.is_empty()
+    let (calls, left) = bytes.as_chunks::<3>();
+    left.is_empty() && calls.iter().all(|&call| Call::try_from(call).is_ok())
 }

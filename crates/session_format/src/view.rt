@@ -1,5 +1,5 @@
 // A view of the caller's bytes as the calls that they hold.
-ghost use Rattle.std.specs.Prelude.{◌≡◌, ◌≤◌, true, length};
+ghost use Rattle.std.specs.Prelude.{◌≡◌, ◌≤◌, true, length, Some, IfSome};
 ghost use Rattle.session_format.specs.Reading.{most_calls, calls_in, well_formed};
 ghost use Rattle.session_format.specs.Splits.{Splits};
 
@@ -14,7 +14,8 @@ pub struct Calls<'a> {
 }
 
 impl Iterator for Calls<'_> {
-    ghost use Rattle.std.specs.Iterator.{YieldsFirst, item_count};
+    ghost use Rattle.std.specs.Iterator.{YieldsFirst, item_count, UpTo};
+    ghost use Rattle.std.specs.Iterator.SizeHint.{IsWithinCount};
     ghost use Rattle.session_format.specs.Views.{calls_left};
 
     type Item = Call;
@@ -29,7 +30,11 @@ impl Iterator for Calls<'_> {
         Some(call)
     }
 
-    fn size_hint(&self) -> (usize, Option<usize>) {
+    fn size_hint(&self) -> (usize, Option<usize>)
+        ensures lower { IsWithinCount result.0 (item_count calls_left self.now) }
+        ensures upper { IfSome result.1 (UpTo (item_count calls_left self.now)) }
+        ensures exact { result ≡ (length (calls_left self.now), Some (length (calls_left self.now))) }
+    {
         let left = self.len();
         (left, Some(left))
     }
@@ -47,7 +52,7 @@ impl ExactSizeIterator for Calls<'_> {
 }
 
 // The call that the bytes begin with, and the bytes after it; none where they end or the call is malformed.
-pub(crate) fn split_first(bytes: &[u8]) -> Option<(Call, &[u8])>
+fn split_first(bytes: &[u8]) -> Option<(Call, &[u8])>
     ensures { Splits bytes.now result }
 {
     let [letter, first, second, rest @ ..] = bytes else {

@@ -30,6 +30,7 @@ fn list_refusal(heap: Global, refusal: FormatRefusal) -> Result<String, AllocErr
 fn list_session(heap: Global, calls: Calls<'_>) -> Result<String, AllocError>
     ensures { IfOk result (λ text. string_bytes text ≡ listed_calls (calls_left calls.entry)) }
 {
+    // `as` is proved to lose nothing, here and below; a `try_from` would add a failure that cannot come.
     let count = CountLine(calls.len() as u16);
     let mut text = format!(in heap; "{count}\n")?;
     list_calls(&mut text, calls)?;

@@ -1,5 +1,7 @@
-use Rattle.card.proofs.Lists.{all_put}
+use Rattle.std.proofs.Common.{arith}
+use Rattle.std.proofs.lemmas.List.{length-map}
+use Rattle.std.proofs.lemmas.List.Edits.{sets-eq}
 use Rattle.card.proofs.listing.put_vectors.Goals as goal
 
 pub returns : goal.returns
-returns g c = all_put _ _ _ _ _ _ c.loop-place.invariant c.in-None.ensures.steps.0.0 c.requires
+returns g c = grind (arith, c.in-None.ensures.steps.0.0, sets-eq, length-map)

@@ -1,17 +1,12 @@
-use Rattle.std.proofs.Common.{◌∙◌}
-use Rattle.ctc.proofs.OnTheChain.{answers_none, takes_none, answers_vector, takes_rank}
+use Rattle.std.proofs.Common.{arith}
+use Rattle.card.specs.Meaning.{rank_acknowledged, vector_answered, vector_of, pulls, asks}
+use Rattle.ctc.specs.FourRanks.{highest_of_four}
 use Rattle.ctc.proofs.chain.CtcChain.acknowledge.Goals as goal
 
 pub returns-in_err-rank : goal.returns-in_err-rank
-returns-in_err-rank c =
-    record {
-      answer = c.from_residual.ensures ∙ answers_none _ _ _ c.rank_acknowledged.ensures c.in_err-rank.was;
-      after = takes_none _ _ _ c.rank_acknowledged.ensures c.in_err-rank.was;
-    }
+unfolding rank_acknowledged vector_answered vector_of pulls asks
+returns-in_err-rank c = grind (arith, highest_of_four)
 
 pub returns : goal.returns
-returns c =
-    record {
-      answer = answers_vector _ _ _ c.rank_acknowledged.ensures _ _ c.in_ok-rank.was c.vector_at-vector.ensures;
-      after = takes_rank _ _ _ c.rank_acknowledged.ensures _ _ c.in_ok-rank.was c.take.ensures;
-    }
+unfolding rank_acknowledged vector_answered vector_of pulls asks
+returns c = grind (arith, highest_of_four)

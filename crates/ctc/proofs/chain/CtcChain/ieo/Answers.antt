@@ -1,5 +1,8 @@
-use Rattle.ctc.proofs.OnTheChain.{ieo_is}
+use Rattle.std.proofs.Common.{arith}
+use Rattle.card.specs.Meaning.{ieo_of, quiet, waits, serves}
+use Rattle.ctc.specs.FourRanks.{highest_of_four}
 use Rattle.ctc.proofs.chain.CtcChain.ieo.Goals as goal
 
 pub returns : goal.returns
-returns c = ieo_is _ _ _ _ _ _ c.waiting_ranks.ensures c.is_empty.ensures c.service_ranks.ensures c.is_empty-2.ensures
+unfolding ieo_of quiet waits serves
+returns c = grind (arith, highest_of_four)

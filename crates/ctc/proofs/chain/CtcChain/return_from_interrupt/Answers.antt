@@ -1,8 +1,12 @@
-use Rattle.ctc.proofs.OnTheChain.{ends_none, ends_rank}
+use Rattle.std.proofs.Common.{arith}
+use Rattle.card.specs.Meaning.{rank_returned}
+use Rattle.ctc.specs.FourRanks.{highest_of_four}
 use Rattle.ctc.proofs.chain.CtcChain.return_from_interrupt.Goals as goal
 
 pub returns-in-Some : goal.returns-in-Some
-returns-in-Some c = ends_rank _ _ _ c.rank_returned.ensures _ _ c.in-Some.is c.end.ensures
+unfolding rank_returned
+returns-in-Some c = grind (arith, highest_of_four)
 
 pub returns-in_default : goal.returns-in_default
-returns-in_default c = ends_none _ _ _ c.rank_returned.ensures c.in_default.is
+unfolding rank_returned
+returns-in_default c = grind (arith, highest_of_four)

@@ -1,9 +1,6 @@
-use Rattle.ctc.proofs.OnTheChain.{list_answer_is, listed_is}
+use Rattle.std.proofs.Common.{arith}
+use Rattle.ctc.specs.FourRanks.{how_many_of_four, from_the_top_of_four}
 use Rattle.ctc.proofs.chain.CtcChain.waiting_list.Goals as goal
 
 pub returns : goal.returns
-returns c =
-    record {
-      answer = list_answer_is c.args.self.now _ c.waiting_ranks.ensures _ _ c.list_vectors.ensures.answer;
-      bytes = listed_is c.args.self.now _ c.waiting_ranks.ensures _ _ c.list_vectors.ensures.bytes;
-    }
+returns c = grind (arith, how_many_of_four, from_the_top_of_four)
