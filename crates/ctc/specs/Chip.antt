@@ -112,12 +112,12 @@ written_as Constant k byte c = with_channel k (constant_taken byte (channel_at k
 written_as ControlWord k byte c = control_set k byte c
 written_as VectorHead k byte c = record { port = c.port; vector = byte; channels = c.channels; waiting = c.waiting; service = c.service }
 
--- a byte that is nothing to the channel leaves the card
+-- a byte that is nothing to the channel leaves the card as it was
 abbrev pub written_if_any : Result Role Refusal → ℕ → ℕ → Ctc → Ctc
 written_if_any (Ok role) k byte c = written_as role k byte c
 written_if_any (Err why) k byte c = c
 
--- and is refused so
+-- why a byte is refused, if it is nothing to the channel
 abbrev pub why_refused : Result Role Refusal → Option Refusal
 why_refused (Ok role) = None
 why_refused (Err why) = Some why

@@ -1,4 +1,5 @@
-// The CTC on the interrupt chain.
+// The CTC on the interrupt chain. As in `bus`, the work is in functions of `chip`, with one definition each as contract; here
+// the trait's clauses are proved of them.
 ghost use Rattle.std.specs.Prelude.{◌≡◌};
 ghost use Rattle.ctc.specs.Chip.{vector_at};
 ghost use Rattle.ctc.specs.Card.{ctc_meaning, ctc_rules};

@@ -31,7 +31,7 @@ impl RankSet {
         self.bits == 0
     }
 
-    // By leading zeros, as the project has it, and not by a logarithm. `as` is proved to lose nothing, here and in `len`; a
+    // By leading zeros (docs/DECISIONS.md), and not by a logarithm. `as` is proved to lose nothing, here and in `len`; a
     // `try_from` would add a failure that cannot come.
     pub fn highest(self) -> Option<u8>
         ensures { result ≡ highest 16 (ranks self) }

@@ -1,5 +1,5 @@
 // The listing of a session's bytes as one text.
-ghost use Rattle.std.specs.Prelude.{◌≡◌, ◌≤◌, ◌++◌, length, IfOk, string_bytes, OnOk};
+ghost use Rattle.std.specs.Prelude.{◌≡◌, ◌++◌, IfOk, string_bytes, OnOk};
 ghost use Rattle.session_format.specs.Views.{calls_left};
 ghost use Rattle.session_listing.specs.Listing.{call_lines, listed_calls, listing_of, ended};
 ghost use Rattle.session_listing.specs.Laws.{LineFeedEach};
