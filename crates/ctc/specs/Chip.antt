@@ -2,7 +2,7 @@
 use Rattle.std.specs.Prelude.{◌≡◌, ℕ, ◌+◌, ◌*◌, ◌/◌, Bool, cond, [], ◌∷◌, map, Some, None, Ok, Err, Option, Result, ◌==◌, nat_lt, slice_index_or, slice_set}
 use Rattle.ranks.specs.declared.set.RankSet.{RankSet}
 use Rattle.ranks.specs.Ranks.{bit, highest}
-use Rattle.ranks.specs.RankSets.{ranks, no_ranks, inserted, removed, intersected}
+use Rattle.ranks.specs.RankSets.{ranks, set_of, no_ranks, inserted, removed, intersected}
 use Rattle.card.specs.declared.refusals.Refusal.{Refusal}
 use Rattle.card.specs.declared.refusals.Refusal.TheVariants.{PortNotTaken, NoSuchLine, ByteNotAwaited}
 use Rattle.ctc_channel.specs.declared.channel.Channel.{Channel}
@@ -22,7 +22,7 @@ channel_at k c = slice_index_or c.channels k new_channel
 
 -- the ranks of a CTC are 0 to 3
 abbrev pub four_ranks : RankSet
-four_ranks = record { bits = 15 }
+four_ranks = set_of 15
 
 abbrev pub waiting_set : Ctc → RankSet
 waiting_set c = intersected c.waiting four_ranks

@@ -7,6 +7,10 @@ use Rattle.ranks.specs.Ranks.{bit, below}
 abbrev pub ranks : RankSet → ℕ → Bool
 ranks s = below 16 (bit s.bits)
 
+-- the set of the ranks whose bits a number has
+abbrev pub set_of : ℕ → RankSet
+set_of b = record { bits = b }
+
 abbrev pub no_ranks : RankSet
 no_ranks = record { bits = 0 }
 

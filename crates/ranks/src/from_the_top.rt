@@ -1,10 +1,11 @@
 // The ranks of a set one after another, the highest first.
 ghost use Rattle.std.specs.Prelude.{◌≡◌};
 ghost use Rattle.std.specs.Iterator.{YieldsFirst, item_count};
-ghost use Rattle.ranks.specs.RankLists.{ranks_left};
+ghost use Rattle.ranks.specs.RankLists.{all_to_come, ranks_left};
 
 use crate::set::RankSet;
 
+// The ranks that are still to come.
 #[derive(Drop)]
 pub struct FromTheTop {
     left: RankSet,
@@ -15,7 +16,7 @@ impl IntoIterator for RankSet {
 
     type IntoIter = FromTheTop;
 
-    ghost into_iter_gives = { λ s it. it ≡ record { left = s } };
+    ghost into_iter_gives = { λ set it. it ≡ all_to_come set };
 
     fn into_iter(self) -> FromTheTop {
         FromTheTop { left: self }

@@ -1,7 +1,7 @@
 // A set of ranks.
 ghost use Rattle.std.specs.Prelude.{◌≡◌, not, is_some};
 ghost use Rattle.ranks.specs.Ranks.{adding, removing, both, below, highest, above, how_many};
-ghost use Rattle.ranks.specs.RankSets.{ranks, no_ranks, mask_of, inserted, removed, intersected};
+ghost use Rattle.ranks.specs.RankSets.{ranks, set_of, no_ranks, mask_of, inserted, removed, intersected};
 
 // A set of ranks 0 to 15: bit k is set where rank k is in it.
 #[derive(Clone, Copy)]
@@ -11,7 +11,7 @@ pub struct RankSet {
 
 // The set that has these bits.
 impl From<u16> for RankSet {
-    ghost from_gives = { λ b s. s ≡ record { bits = b } };
+    ghost from_gives = { λ bits set. set ≡ set_of bits };
 
     fn from(bits: u16) -> RankSet {
         RankSet { bits }
