@@ -78,15 +78,15 @@ impl CountStage {
         ensures answer { result ≡ clock_times_out divisor self.old }
         ensures after { self.new ≡ clocked divisor self.old }
     {
-        match self.prescaler.checked_add(1) {
-            Some(count) if count < divisor => {
-                self.prescaler = count;
-                false
-            }
-            _ => {
-                self.clear_prescaler();
-                self.step()
-            }
+        // In 32 bits no sum overflows; `checked_add` in 16 would test for that at each clock too.
+        let count = u32::from(self.prescaler) + 1;
+        if count < u32::from(divisor) {
+            // A count below a divisor fits, so that the 0 never comes.
+            self.prescaler = u16::try_from(count).unwrap_or(0);
+            false
+        } else {
+            self.clear_prescaler();
+            self.step()
         }
     }
 }
