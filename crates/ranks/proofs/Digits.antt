@@ -1,12 +1,45 @@
 -- The bits of a number.
-use Rattle.std.proofs.Common.{◌≡◌, ℕ, zero, suc, ◌-◌, ◌/◌, ◌%◌, ◌^◌, ◌<◌, Some, one-add, pow_pos, arith}
+use Rattle.std.proofs.Common.{◌≡◌, ℕ, zero, suc, ◌-◌, ◌/◌, ◌%◌, ◌^◌, ◌<◌, false, not, ◌&&◌, ◌||◌, eqb, Some, one-add, pow-suc, pow_pos, arith}
 use native.Mathlib.Nat.{div-eq_of_lt-le, mod-one}
+use lib.Bits.{bit_and, bit_or}
 use lib.Count.{count_leading_zeros, ones, ones_in, ones_cat}
 use Rattle.std.proofs.lemmas.Bool.Decides.{nat_tests}
 use Rattle.std.proofs.lemmas.Nat.{leading_top, ones_le_self, zero_from_ones, mod-pow-add}
-use Rattle.std.proofs.lemmas.Nat.Bits.{bit_at_above}
+use Rattle.std.proofs.lemmas.Nat.Bits.{bit_at_lowest, bit_at-suc, bit_at_and, bit_at_or, bit_at-zero, bit_at-pow_same, bit_at-pow_other, bit_at-lt, bit_at_above}
 use Rattle.ranks.specs.Ranks.{bit, highest, how_many}
 use Rattle.ranks.proofs.Sets.{highest_is}
+
+pub bit-bit_and : (a b k : ℕ) → bit (bit_and a b) k ≡ (bit a k && bit b k)
+unfolding bit
+bit-bit_and a b k = grind (arith, nat_tests, bit_at_and, bit_at-lt)
+
+pub bit-bit_or : (a b k : ℕ) → bit (bit_or a b) k ≡ (bit a k || bit b k)
+unfolding bit
+bit-bit_or a b k = grind (arith, nat_tests, bit_at_or, bit_at-lt)
+
+pub bit_zero : (k : ℕ) → bit 0 k ≡ false
+unfolding bit
+bit_zero k = grind (arith, nat_tests, bit_at-zero)
+
+pub bit_pow : (r k : ℕ) → bit (2 ^ r) k ≡ eqb k r
+unfolding bit
+bit_pow r k = grind (arith, nat_tests, bit_at-pow_same, bit_at-pow_other)
+
+-- no bit from k on in a number below 2 ^ k
+pub bit_past : (a k : ℕ) → a < 2 ^ k → bit a k ≡ false
+unfolding bit
+bit_past a k h = grind (arith, nat_tests, bit_at_above a k k h)
+
+-- the bits of the complement at w bits
+pub bit_not : (w a k : ℕ) → a < 2 ^ w → k < w → bit (2 ^ w - 1 - a) k ≡ not (bit a k)
+unfolding bit
+bit_not zero a k h l = absurd (omega arith)
+bit_not (suc w) a zero h l =
+    let e : (2 ^ suc w - 1 - a) % 2 ≡ 1 - a % 2 = omega (arith, pow-suc 2 w) in
+    rw (bit_at_lowest (2 ^ suc w - 1 - a), bit_at_lowest a, e) (grind (arith, nat_tests))
+bit_not (suc w) a (suc k) h l =
+    let e : (2 ^ suc w - 1 - a) / 2 ≡ 2 ^ w - 1 - a / 2 = omega (arith, pow-suc 2 w) in
+    rw (bit_at-suc (2 ^ suc w - 1 - a) k, bit_at-suc a k, e) (bit_not w (a / 2) k (omega (arith, pow-suc 2 w)) (omega arith))
 
 -- the highest bit, by the leading zeros at w bits
 pub highest_bit : (w a : ℕ) → 0 < a → a < 2 ^ w → highest w (bit a) ≡ Some (w - 1 - count_leading_zeros w a)
