@@ -1,5 +1,5 @@
 -- What the operations on a set of ranks 0 to 15 make of its ranks.
-use Rattle.std.proofs.Common.{◌≡◌, ℕ, ◌-◌, ◌^◌, ◌<◌, ◌≤◌, true, cond, not, ◌&&◌, eqb, ltb, Some, None, is_some, refl, w16, mod-eq_of_lt, arith}
+use Rattle.std.proofs.Common.{◌≡◌, ℕ, ◌-◌, ◌^◌, ◌<◌, ◌≤◌, true, false, cond, not, ◌&&◌, eqb, ltb, Some, None, is_some, refl, w16, mod-eq_of_lt, arith}
 use mathlib.Core.Bool.{and_assoc}
 use mathlib.Core.Path.{fun_ext}
 use lib.Count.{count_leading_zeros, ones, leading_of_zero, leading_le}
@@ -65,6 +65,14 @@ top_found a h = rw (all_bits a h) (grind (arith, nat_tests, none_found, highest_
 
 pub empty_tested : (a : ℕ) → a < 65536 → eqb a 0 ≡ not (is_some (highest 16 (below 16 (bit a))))
 empty_tested a h = rw (← top_found a h) (grind (arith, nat_tests))
+
+-- a set that is not empty has its highest rank below its leading zeros
+module _ (a : ℕ) (h : a < 65536) (some : not (is_some (highest 16 (below 16 (bit a)))) ≡ false) where
+  pub leading_few : count_leading_zeros 16 a ≤ 15
+  leading_few = grind (arith, nat_tests, empty_tested a, leading_lt 16 a)
+
+  pub leading_found : Some (15 - count_leading_zeros 16 a) ≡ highest 16 (below 16 (bit a))
+  leading_found = grind (arith, nat_tests, empty_tested a, top_found a)
 
 pub outranking_tested : (a b : ℕ) → a < 65536 → b < 65536 → ltb (count_leading_zeros 16 a) (count_leading_zeros 16 b) ≡ above (highest 16 (below 16 (bit a))) (highest 16 (below 16 (bit b)))
 unfolding above

@@ -25,6 +25,7 @@ impl RankSet {
         RankSet { bits: 0 }
     }
 
+    #[tactic(auto, using(crate::proofs::RankSets::empty_tested))]
     pub fn is_empty(self) -> bool
         ensures { result ≡ not (is_some (highest 16 (ranks self))) }
     {
@@ -33,10 +34,11 @@ impl RankSet {
 
     // By leading zeros (docs/DECISIONS.md), and not by a logarithm. `as` is proved to lose nothing, here and in `len`; a
     // `try_from` would add a failure that cannot come.
+    #[tactic(auto, using(crate::proofs::RankSets::leading_few, crate::proofs::RankSets::leading_found))]
     pub fn highest(self) -> Option<u8>
         ensures { result ≡ highest 16 (ranks self) }
     {
-        if self.bits == 0 {
+        if self.is_empty() {
             None
         } else {
             Some((15 - self.bits.leading_zeros()) as u8)
@@ -44,12 +46,14 @@ impl RankSet {
     }
 
     // Whether a rank of the set is above every rank of the other.
+    #[tactic(auto, using(crate::proofs::RankSets::outranking_tested))]
     pub fn outranks(self, other: RankSet) -> bool
         ensures { result ≡ above (highest 16 (ranks self)) (highest 16 (ranks other)) }
     {
         self.bits.leading_zeros() < other.bits.leading_zeros()
     }
 
+    #[tactic(auto, using(crate::proofs::RankSets::all_counted))]
     pub fn len(self) -> u16
         ensures { result ≡ how_many 16 (ranks self) }
     {
@@ -57,6 +61,7 @@ impl RankSet {
     }
 
     // The ranks that are in both.
+    #[tactic(auto, using(crate::proofs::RankSets::ranks_both))]
     pub fn intersection(self, other: RankSet) -> RankSet
         ensures bits { result ≡ intersected self other }
         ensures ranks { ranks result ≡ both (ranks self) (ranks other) }
@@ -67,6 +72,7 @@ impl RankSet {
     }
 
     // No set holds a rank above 15: inserting one changes nothing.
+    #[tactic(auto, using(crate::proofs::RankSets::ranks_inserted))]
     pub fn insert(&mut self, rank: u8)
         ensures bits { self.new ≡ inserted rank self.old }
         ensures ranks { ranks self.new ≡ below 16 (adding rank (ranks self.old)) }
@@ -74,6 +80,7 @@ impl RankSet {
         self.bits |= mask(rank);
     }
 
+    #[tactic(auto, using(crate::proofs::RankSets::ranks_removed))]
     pub fn remove(&mut self, rank: u8)
         ensures bits { self.new ≡ removed rank self.old }
         ensures ranks { ranks self.new ≡ removing rank (ranks self.old) }
