@@ -29,7 +29,7 @@ calls_back (call ∷ calls) h = (begins_back call (bytes_of_calls calls) (All-he
 length_call : (call : Call) → length (call_bytes call) ≡ 3
 length_call call = grind arith
 
-length_calls : (calls : List Call) → length (bytes_of_calls calls) ≡ 3 * length calls
+pub length_calls : (calls : List Call) → length (bytes_of_calls calls) ≡ 3 * length calls
 length_calls [] = refl
 length_calls (call ∷ calls) = simp length-append (omega (arith, length_call call, length_calls calls))
 

@@ -44,6 +44,7 @@ impl ExactSizeIterator for Calls<'_> {
     ghost use Rattle.session_format.specs.Views.{calls_left};
 
     // How many calls are still to come.
+    #[tactic(auto, using(crate::proofs::Shapes::length_formed))]
     fn len(&self) -> usize
         ensures { result ≡ length (calls_left self.now) }
     {
