@@ -1,3 +1,4 @@
 pub mod Requests
 pub mod Timers
 pub mod Counters
+pub mod Resets

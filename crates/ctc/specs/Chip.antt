@@ -1,5 +1,5 @@
 -- The registers of a CTC, and what each call makes of them.
-use Rattle.std.specs.Prelude.{◌≡◌, ℕ, ◌+◌, ◌*◌, ◌/◌, Bool, cond, [], ◌∷◌, map, Some, None, Ok, Err, Option, Result, ◌==◌, nat_lt, slice_index_or, slice_set}
+use Rattle.std.specs.Prelude.{◌≡◌, ℕ, ◌+◌, ◌*◌, ◌/◌, Bool, cond, List, [], ◌∷◌, Some, None, Ok, Err, Option, Result, ◌==◌, nat_lt, slice_index_or, slice_set}
 use Rattle.ranks.specs.declared.set.RankSet.{RankSet}
 use Rattle.ranks.specs.Ranks.{bit, highest}
 use Rattle.ranks.specs.RankSets.{ranks, set_of, no_ranks, inserted, removed, intersected}
@@ -60,13 +60,16 @@ raised k c = with_rank_sets (inserted (rank_of k) c.waiting) c.service c
 abbrev pub with_channel : ℕ → Channel → RankSet → Ctc → Ctc
 with_channel k x w c = record { port = c.port; vector = c.vector; channels = slice_set c.channels k x; waiting = w; service = c.service }
 
+abbrev pub reset_at : ℕ → List Channel → List Channel
+reset_at k l = slice_set l k (channel_reset (slice_index_or l k new_channel))
+
 -- a reset clears the vector and both sets, and resets every channel
 abbrev pub ctc_reset : Ctc → Ctc
 ctc_reset c =
     record {
       port = c.port;
       vector = 0;
-      channels = map channel_reset c.channels;
+      channels = reset_at 3 (reset_at 2 (reset_at 1 (reset_at 0 c.channels)));
       waiting = no_ranks;
       service = no_ranks;
     }

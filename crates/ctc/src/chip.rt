@@ -115,6 +115,7 @@ impl Ctc {
         self.service.remove(rank);
     }
 
+    #[tactic(auto, using(crate::proofs::Resets::all_reset))]
     pub(crate) fn reset_all(&mut self)
         ensures { self.new ≡ ctc_reset self.old }
     {
