@@ -1,5 +1,5 @@
 -- What the operations on a set of ranks 0 to 15 make of its ranks.
-use Rattle.std.proofs.Common.{◌≡◌, ℕ, ◌-◌, ◌^◌, ◌<◌, ◌≤◌, true, false, cond, not, ◌&&◌, eqb, ltb, Some, None, is_some, refl, w16, mod-eq_of_lt, arith}
+use Rattle.std.proofs.Common.{◌≡◌, ℕ, ◌-◌, ◌^◌, ◌<◌, ◌≤◌, Bool, true, false, cond, not, ◌&&◌, eqb, ltb, Some, None, is_some, refl, w16, mod-eq_of_lt, arith}
 use mathlib.Core.Bool.{and_assoc}
 use mathlib.Core.Path.{fun_ext}
 use lib.Count.{count_leading_zeros, ones, leading_of_zero, leading_le}
@@ -77,6 +77,10 @@ module _ (a : ℕ) (h : a < 65536) (some : not (is_some (highest 16 (below 16 (b
 pub outranking_tested : (a b : ℕ) → a < 65536 → b < 65536 → ltb (count_leading_zeros 16 a) (count_leading_zeros 16 b) ≡ above (highest 16 (below 16 (bit a))) (highest 16 (below 16 (bit b)))
 unfolding above
 outranking_tested a b h g = rw (← top_found a h, ← top_found b g) (grind (arith, nat_tests, leading_of_zero, leading_lt, leading_le))
+
+pub outranking_found : (a b : ℕ) (r : Bool) → a < 65536 → b < 65536 → r ≡ ltb (count_leading_zeros 16 a) (count_leading_zeros 16 b)
+    → r ≡ above (highest 16 (below 16 (bit a))) (highest 16 (below 16 (bit b)))
+outranking_found a b r h g e = rw e (outranking_tested a b h g)
 
 pub all_counted : (a : ℕ) → a < 65536 → ones a ≡ how_many 16 (below 16 (bit a))
 all_counted a h = rw (all_bits a h, how_many_bits 16 a, mod-eq_of_lt h)

@@ -46,7 +46,7 @@ impl RankSet {
     }
 
     // Whether a rank of the set is above every rank of the other.
-    #[tactic(auto, using(crate::proofs::RankSets::outranking_tested))]
+    #[tactic(auto, using(crate::proofs::RankSets::outranking_found))]
     pub fn outranks(self, other: RankSet) -> bool
         ensures { result ≡ above (highest 16 (ranks self)) (highest 16 (ranks other)) }
     {

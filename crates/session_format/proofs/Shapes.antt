@@ -67,6 +67,10 @@ length_formed (letter ∷ []) formed = cc
 length_formed (letter ∷ first ∷ []) formed = cc
 length_formed (letter ∷ first ∷ second ∷ rest) formed = length_more (call_of letter first second) rest formed (length_formed rest) ∙ omega arith
 
+-- bytes are well formed if the slice of all of them is
+pub formed_whole : (bytes : List ℕ) → well_formed (after 0 bytes) ≡ true → well_formed bytes ≡ true
+formed_whole bytes h = grind (arith, take_rest bytes 0, h)
+
 -- whether these are the three bytes of a call
 abbrev pub is_call : List ℕ → Bool
 is_call bytes = is_ok (call_of_bytes bytes)

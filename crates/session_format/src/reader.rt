@@ -31,7 +31,7 @@ fn count_of(low: u8, high: u8) -> u16
     u16::from_le_bytes([low, high])
 }
 
-#[tactic(auto, using(crate::proofs::Shapes::length_formed))]
+#[tactic(auto, using(crate::proofs::Shapes::length_formed, crate::proofs::Shapes::formed_whole))]
 fn read_calls(count: u16, bytes: &[u8]) -> Result<Calls<'_>, FormatRefusal>
     ensures { answer result ≡ counted count bytes.now }
 {
